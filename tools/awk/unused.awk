@@ -43,6 +43,10 @@ kind == "antt" {
     if ($0 ~ /^ *(requires|ensures) /) clause_here = 1
     if ($0 ~ /^ *\{ *$/) clause_here = 0
     if (clause_here) take_words(line)
+    # what an impl says beside its functions, as `ghost from_gives = { .. };`
+    if ($0 ~ /^ *ghost [a-z_]+ = /) ghost_here = 1
+    if (ghost_here) take_words(line)
+    if ($0 ~ /; *$/) ghost_here = 0
     # a trait is used where its method is called
     if (line ~ /\.(with_)?context\(/) in_code[module, "Context"] = 1
     gsub(/[^A-Za-z0-9_]/, " ", line)

@@ -9,8 +9,9 @@ use Rattle.rules.specs.declared.Refusal.TheVariants.{NoPlace}
 use Rattle.digest_read.specs.Held.{unused}
 use Rattle.digest_read.specs.declared.NodeDigest.{NodeDigest as Place}
 use Rattle.digest_read.specs.declared.Digest.{Digest}
+use Rattle.std.specs.Prelude.{Err, Ok, Result}
 use Rattle.digest_read.specs.declared.DigestRead.{DigestRead}
-use Rattle.digest_read.specs.declared.DigestRead.TheVariants as digest
+use Rattle.rules.specs.declared.Refusal.{Refusal}
 use Rattle.answers.specs.declared.KevCount.{KevCount}
 use Rattle.answers.specs.declared.KevNode.{KevNode}
 use Rattle.answers.specs.declared.KevHeartbeat.{KevHeartbeat}
@@ -116,9 +117,9 @@ digest_shown t = record { number = t.number; count = value_at 0 (accepted_values
 abbrev pub place_told : (place : Place) → Told
 place_told p = accepted (p.number ∷ p.heartbeat.0 ∷ p.last_gc ∷ p.max ∷ [])
 
-abbrev pub entry_at : (i : ℕ) (read : DigestRead) (places : List Place) → Told
-entry_at i (digest.Nodes count rest) ps = pick (leb max_nodes i) (refused NoPlace []) (pick (leb count i) (refused NoPlace []) (place_told (get_or ps i unused)))
-entry_at i (digest.Refused why) ps = refused why []
+abbrev pub entry_at : (i : ℕ) (read : (Result DigestRead Refusal)) (places : List Place) → Told
+entry_at i (Ok d) ps = pick (leb max_nodes i) (refused NoPlace []) (pick (leb d.count i) (refused NoPlace []) (place_told (get_or ps i unused)))
+entry_at i (Err why) ps = refused why []
 
 unfoldable pub entry_told : (i : ℕ) (digest : Digest) → Told
 entry_told i d = entry_at i d.read d.entries

@@ -17,18 +17,16 @@ ghost use Rattle.answers.specs.Shown.{found_over_shown, listed_over_shown};
 ghost use Rattle.answers.specs.Shown.{digest_shown, entry_told, entry_shown, computed_shown, judged_shown};
 ghost use Rattle.answers.specs.Shown.{delta_shown, applied_shown, exchanged_shown, made_shown};
 
-use delta_make::Made;
+use delta_make::NotMade;
 use digest_read::{Digest, DigestRead};
 use exchange::Exchanged;
-use exchange_ask::Step;
-use inspect::{Count, NodeHeader, NodeNumber, RecordRead, Rows};
+use exchange_ask::{Step, Stopped};
+use inspect::{RecordRead, Rows};
 use lookup::Found;
 use over_find::FoundOver;
-use over_list::ListedOver;
-use plan::Judged;
-use rules::{
-    Answer, Applied, Computed, DeltaRead, Listed, Offered, Refusal, Remembered, Written, sizes,
-};
+use overrides::RefusedOver;
+use plan::NotSent;
+use rules::{DeltaFault, DeltaRead, Header, Heartbeat, Refusal, Sent, sizes};
 
 // A count: of nodes, records, hits or bytes; of an offer, 1 where it was news.
 #[repr(C)]
@@ -209,67 +207,67 @@ pub struct KevExchanged {
 
 // ---- a number alone
 
-pub fn number(answer: Answer) -> u64
+pub fn number(answer: Result<(), Refusal>) -> u64
     ensures { result ≡ number_shown (answer_told answer) }
 {
     match answer {
-        Answer::Done => 0,
-        Answer::Refused(why) => why.number(),
+        Ok(()) => 0,
+        Err(why) => why.number(),
     }
 }
 
 // ---- a number and a count
 
 // 1 where the heartbeat was news.
-pub fn news(offered: Offered) -> KevCount
+pub fn news(offered: Result<bool, Refusal>) -> KevCount
     ensures { result ≡ count_shown (offered_told offered) }
 {
     match offered {
-        Offered::Yes => KevCount {
+        Ok(true) => KevCount {
             number: 0,
             count: 1,
         },
-        Offered::No => KevCount {
+        Ok(false) => KevCount {
             number: 0,
             count: 0,
         },
-        Offered::Refused(why) => KevCount {
+        Err(why) => KevCount {
             number: why.number(),
             count: 0,
         },
     }
 }
 
-pub fn hits(listed: Listed) -> KevCount
+pub fn hits(listed: Result<usize, Refusal>) -> KevCount
     ensures { result ≡ count_shown (listed_told listed) }
 {
     match listed {
-        Listed::Hits(count) => KevCount { number: 0, count },
-        Listed::Refused(why) => KevCount {
+        Ok(count) => KevCount { number: 0, count },
+        Err(why) => KevCount {
             number: why.number(),
             count: 0,
         },
     }
 }
 
-pub fn bytes(written: Written) -> KevCount
+pub fn bytes(written: Result<usize, Refusal>) -> KevCount
     ensures { result ≡ count_shown (written_told written) }
 {
     match written {
-        Written::Bytes(count) => KevCount { number: 0, count },
-        Written::Refused(why) => KevCount {
+        Ok(count) => KevCount { number: 0, count },
+        Err(why) => KevCount {
             number: why.number(),
             count: 0,
         },
     }
 }
 
-pub fn count(counted: Count) -> KevCount
+pub fn count(counted: Result<usize, Refusal>) -> KevCount
     ensures { result ≡ count_shown (count_told counted) }
 {
     match counted {
-        Count::Are(count) => KevCount { number: 0, count },
-        Count::Refused(why) => KevCount {
+        Ok(count) => KevCount { number: 0, count },
+        Err(why) => KevCount {
             number: why.number(),
             count: 0,
         },
@@ -278,21 +276,21 @@ pub fn count(counted: Count) -> KevCount
 
 // ---- readings of a table
 
-pub fn heartbeat(remembered: Remembered) -> KevHeartbeat
+pub fn heartbeat(remembered: Result<Option<Heartbeat>, Refusal>) -> KevHeartbeat
     ensures { result ≡ heartbeat_shown (remembered_told remembered) }
 {
     match remembered {
-        Remembered::With(beats) => KevHeartbeat {
+        Ok(Some(beats)) => KevHeartbeat {
             number: 0,
             found: 1,
             heartbeat: beats.0,
         },
-        Remembered::Not => KevHeartbeat {
+        Ok(None) => KevHeartbeat {
             number: 0,
             found: 0,
             heartbeat: 0,
         },
-        Remembered::Refused(why) => KevHeartbeat {
+        Err(why) => KevHeartbeat {
             number: why.number(),
             found: 0,
             heartbeat: 0,
@@ -300,35 +298,35 @@ pub fn heartbeat(remembered: Remembered) -> KevHeartbeat
     }
 }
 
-pub fn node(named: NodeNumber) -> KevNode
+pub fn node(named: Result<u64, Refusal>) -> KevNode
     ensures { result ≡ node_shown (node_number_told named) }
 {
     match named {
-        NodeNumber::Is(node) => KevNode { number: 0, node },
-        NodeNumber::Refused(why) => KevNode {
+        Ok(node) => KevNode { number: 0, node },
+        Err(why) => KevNode {
             number: why.number(),
             node: 0,
         },
     }
 }
 
-pub fn found(place: Found) -> KevFound
+pub fn found(place: Result<Option<Found>, Refusal>) -> KevFound
     ensures { result ≡ found_shown (found_told place) }
 {
     match place {
-        Found::At { start, len } => KevFound {
+        Ok(Some(text)) => KevFound {
             number: 0,
             found: 1,
-            start,
-            len,
+            start: text.start,
+            len: text.len,
         },
-        Found::Nothing => KevFound {
+        Ok(None) => KevFound {
             number: 0,
             found: 0,
             start: 0,
             len: 0,
         },
-        Found::Refused(why) => KevFound {
+        Err(why) => KevFound {
             number: why.number(),
             found: 0,
             start: 0,
@@ -337,11 +335,11 @@ pub fn found(place: Found) -> KevFound
     }
 }
 
-pub fn found_over(place: FoundOver) -> KevFoundOver
+pub fn found_over(place: Result<Option<FoundOver>, RefusedOver>) -> KevFoundOver
     ensures { result ≡ found_over_shown (found_over_told place) }
 {
     match place {
-        FoundOver::InOverrides { start, len } => KevFoundOver {
+        Ok(Some(FoundOver::InOverrides { start, len })) => KevFoundOver {
             number: 0,
             found: 1,
             over: 1,
@@ -349,7 +347,7 @@ pub fn found_over(place: FoundOver) -> KevFoundOver
             len,
             which: 0,
         },
-        FoundOver::InTable { start, len } => KevFoundOver {
+        Ok(Some(FoundOver::InTable { start, len })) => KevFoundOver {
             number: 0,
             found: 1,
             over: 0,
@@ -357,7 +355,7 @@ pub fn found_over(place: FoundOver) -> KevFoundOver
             len,
             which: 0,
         },
-        FoundOver::Nothing => KevFoundOver {
+        Ok(None) => KevFoundOver {
             number: 0,
             found: 0,
             over: 0,
@@ -365,7 +363,7 @@ pub fn found_over(place: FoundOver) -> KevFoundOver
             len: 0,
             which: 0,
         },
-        FoundOver::Refused { which, why } => KevFoundOver {
+        Err(RefusedOver { which, why }) => KevFoundOver {
             number: why.number(),
             found: 0,
             over: 0,
@@ -376,16 +374,16 @@ pub fn found_over(place: FoundOver) -> KevFoundOver
     }
 }
 
-pub fn hits_over(listed: ListedOver) -> KevListedOver
+pub fn hits_over(listed: Result<usize, RefusedOver>) -> KevListedOver
     ensures { result ≡ listed_over_shown (listed_over_told listed) }
 {
     match listed {
-        ListedOver::Hits(count) => KevListedOver {
+        Ok(count) => KevListedOver {
             number: 0,
             count,
             which: 0,
         },
-        ListedOver::Refused { which, why } => KevListedOver {
+        Err(RefusedOver { which, why }) => KevListedOver {
             number: why.number(),
             count: 0,
             which: which.code(),
@@ -393,11 +391,11 @@ pub fn hits_over(listed: ListedOver) -> KevListedOver
     }
 }
 
-pub fn header(read: NodeHeader) -> KevHeader
+pub fn header(read: Result<Header, Refusal>) -> KevHeader
     ensures { result ≡ header_shown (node_header_told read) }
 {
     match read {
-        NodeHeader::Is(h) => {
+        Ok(h) => {
             let beats = h.heartbeat;
             KevHeader {
                 number: 0,
@@ -406,7 +404,7 @@ pub fn header(read: NodeHeader) -> KevHeader
                 last_gc: h.last_gc,
             }
         }
-        NodeHeader::Refused(why) => KevHeader {
+        Err(why) => KevHeader {
             number: why.number(),
             heartbeat: 0,
             max: 0,
@@ -415,16 +413,16 @@ pub fn header(read: NodeHeader) -> KevHeader
     }
 }
 
-pub fn rows(read: Rows) -> KevRows
+pub fn rows(read: Result<Rows, Refusal>) -> KevRows
     ensures { result ≡ rows_shown (rows_told read) }
 {
     match read {
-        Rows::Are { at, count } => KevRows {
+        Ok(Rows { at, count }) => KevRows {
             number: 0,
             at,
             count,
         },
-        Rows::Refused(why) => KevRows {
+        Err(why) => KevRows {
             number: why.number(),
             at: 0,
             count: 0,
@@ -448,17 +446,18 @@ fn no_record(number: u64) -> KevRecord
     }
 }
 
-pub fn record(read: RecordRead) -> KevRecord
+pub fn record(read: Result<Option<RecordRead>, Refusal>) -> KevRecord
     ensures { result ≡ record_shown (record_read_told read) }
 {
     match read {
-        RecordRead::Is { key, value, record } => {
+        Ok(Some(row)) => {
+            let record = row.record;
             let status = record.status;
             KevRecord {
                 number: 0,
                 found: 1,
-                key_at: key,
-                value_at: value,
+                key_at: row.key,
+                value_at: row.value,
                 keylen: record.keylen,
                 valuelen: record.valuelen,
                 version: record.version,
@@ -466,8 +465,8 @@ pub fn record(read: RecordRead) -> KevRecord
                 start: record.start,
             }
         }
-        RecordRead::Nothing => no_record(0),
-        RecordRead::Refused(why) => no_record(why.number()),
+        Ok(None) => no_record(0),
+        Err(why) => no_record(why.number()),
     }
 }
 
@@ -478,13 +477,13 @@ pub fn digest(read: Digest) -> KevDigest
 {
     let verdict = read.read;
     match verdict {
-        DigestRead::Nodes { count, rest } => KevDigest {
+        Ok(DigestRead { count, rest }) => KevDigest {
             number: 0,
             count,
             rest,
             need: 0,
         },
-        DigestRead::Refused(why) => KevDigest {
+        Err(why) => KevDigest {
             number: why.number(),
             count: 0,
             rest: 0,
@@ -512,8 +511,8 @@ pub fn entry(read: Digest, i: usize) -> KevEntry
 {
     let verdict = read.read;
     match verdict {
-        DigestRead::Refused(why) => no_entry(why),
-        DigestRead::Nodes { count, rest: _ } => {
+        Err(why) => no_entry(why),
+        Ok(DigestRead { count, rest: _ }) => {
             if sizes::NODES <= i {
                 return no_entry(Refusal::NoPlace);
             }
@@ -537,17 +536,17 @@ pub fn entry(read: Digest, i: usize) -> KevEntry
 
 // ---- deltas
 
-pub fn computed(sent: Computed) -> KevComputed
+pub fn computed(sent: Result<Sent, Refusal>) -> KevComputed
     ensures { result ≡ computed_shown (computed_told sent) }
 {
     match sent {
-        Computed::Delta { ops, bytes } => KevComputed {
+        Ok(Sent { ops, bytes }) => KevComputed {
             number: 0,
             ops,
             bytes,
             need: 0,
         },
-        Computed::Refused(why) => KevComputed {
+        Err(why) => KevComputed {
             number: why.number(),
             ops: 0,
             bytes: 0,
@@ -556,23 +555,23 @@ pub fn computed(sent: Computed) -> KevComputed
     }
 }
 
-pub fn judged(said: Judged) -> KevJudged
+pub fn judged(said: Result<(), NotSent>) -> KevJudged
     ensures { result ≡ judged_shown (judged_told said) }
 {
     match said {
-        Judged::Accepted => KevJudged {
+        Ok(()) => KevJudged {
             number: 0,
             line: 0,
             why: 0,
             need: 0,
         },
-        Judged::AtFault { line, why } => KevJudged {
+        Err(NotSent::AtFault { line, why }) => KevJudged {
             number: Refusal::BadPlan.number(),
             line,
             why: why.code(),
             need: 0,
         },
-        Judged::Refused(refusal) => KevJudged {
+        Err(NotSent::Refused(refusal)) => KevJudged {
             number: refusal.number(),
             line: 0,
             why: 0,
@@ -581,18 +580,18 @@ pub fn judged(said: Judged) -> KevJudged
     }
 }
 
-pub fn delta(read: DeltaRead) -> KevDelta
+pub fn delta(read: Result<DeltaRead, DeltaFault>) -> KevDelta
     ensures { result ≡ delta_shown (read_told read) }
 {
     match read {
-        DeltaRead::Good { ops, nodes } => KevDelta {
+        Ok(DeltaRead { ops, nodes }) => KevDelta {
             number: 0,
             ops,
             nodes,
             at: 0,
             need: 0,
         },
-        DeltaRead::Refused { why, at } => KevDelta {
+        Err(DeltaFault { why, at }) => KevDelta {
             number: why.number(),
             ops: 0,
             nodes: 0,
@@ -602,17 +601,17 @@ pub fn delta(read: DeltaRead) -> KevDelta
     }
 }
 
-pub fn applied(taken: Applied) -> KevApplied
+pub fn applied(taken: Result<usize, DeltaFault>) -> KevApplied
     ensures { result ≡ applied_shown (applied_told taken) }
 {
     match taken {
-        Applied::Nodes(nodes) => KevApplied {
+        Ok(nodes) => KevApplied {
             number: 0,
             nodes,
             at: 0,
             need: 0,
         },
-        Applied::Refused { why, at } => KevApplied {
+        Err(DeltaFault { why, at }) => KevApplied {
             number: why.number(),
             nodes: 0,
             at,
@@ -622,31 +621,34 @@ pub fn applied(taken: Applied) -> KevApplied
 }
 
 // The number of a line that is not in its form is 16.
-pub fn made(answer: Made) -> KevMade
+pub fn made(answer: Result<usize, NotMade>) -> KevMade
     ensures { result ≡ made_shown (made_told answer) }
 {
     match answer {
-        Made::Bytes(bytes) => KevMade {
+        Ok(bytes) => KevMade {
             number: 0,
             bytes,
             line: 0,
             at: 0,
             need: 0,
         },
-        Made::BadLine(line) => KevMade {
+        Err(NotMade::BadLine(line)) => KevMade {
             number: 16,
             bytes: 0,
             line,
             at: 0,
             need: 0,
         },
-        Made::Refused { why, at } => KevMade {
-            number: why.number(),
-            bytes: 0,
-            line: 0,
-            at,
-            need: why.need(),
-        },
+        Err(NotMade::Refused(fault)) => {
+            let why = fault.why;
+            KevMade {
+                number: why.number(),
+                bytes: 0,
+                line: 0,
+                at: fault.at,
+                need: why.need(),
+            }
+        }
     }
 }
 
@@ -662,18 +664,18 @@ fn step_code(step: Step) -> usize
     }
 }
 
-pub fn exchanged(answer: Exchanged) -> KevExchanged
+pub fn exchanged(answer: Result<Exchanged, Stopped>) -> KevExchanged
     ensures { result ≡ exchanged_shown (exchanged_told answer) }
 {
     match answer {
-        Exchanged::Done { ops, bytes, nodes } => KevExchanged {
+        Ok(Exchanged { ops, bytes, nodes }) => KevExchanged {
             number: 0,
             ops,
             bytes,
             nodes,
             step: 0,
         },
-        Exchanged::Refused { step, why } => KevExchanged {
+        Err(Stopped { step, why }) => KevExchanged {
             number: why.number(),
             ops: 0,
             bytes: 0,

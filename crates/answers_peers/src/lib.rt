@@ -6,8 +6,7 @@ ghost use Rattle.rules.specs.Answers.{answer_told};
 ghost use Rattle.grid.specs.LentGrid.{least_told, seen_told};
 ghost use Rattle.answers_peers.specs.ShownPeers.{least_shown, seen_shown, told_shown};
 
-use grid::{Least, Seen};
-use rules::Answer;
+use rules::{Pair, Refusal};
 
 // The answer to a digest that a peer told; with 9, how many bytes the field lacks in which its bytes end.
 #[repr(C)]
@@ -35,47 +34,47 @@ pub struct KevSeen {
     pub max: u64,
 }
 
-pub fn told(answer: Answer) -> KevTold
+pub fn told(answer: Result<(), Refusal>) -> KevTold
     ensures { result ≡ told_shown (answer_told answer) }
 {
     match answer {
-        Answer::Done => KevTold { number: 0, need: 0 },
-        Answer::Refused(why) => KevTold {
+        Ok(()) => KevTold { number: 0, need: 0 },
+        Err(why) => KevTold {
             number: why.number(),
             need: why.need(),
         },
     }
 }
 
-pub fn least(answer: Least) -> KevLeast
+pub fn least(answer: Result<u64, Refusal>) -> KevLeast
     ensures { result ≡ least_shown (least_told answer) }
 {
     match answer {
-        Least::Is(max) => KevLeast { number: 0, max },
-        Least::Refused(why) => KevLeast {
+        Ok(max) => KevLeast { number: 0, max },
+        Err(why) => KevLeast {
             number: why.number(),
             max: 0,
         },
     }
 }
 
-pub fn seen(answer: Seen) -> KevSeen
+pub fn seen(answer: Result<Option<Pair>, Refusal>) -> KevSeen
     ensures { result ≡ seen_shown (seen_told answer) }
 {
     match answer {
-        Seen::Pair { last_gc, max } => KevSeen {
+        Ok(Some(row)) => KevSeen {
             number: 0,
             found: 1,
-            last_gc,
-            max,
+            last_gc: row.last_gc,
+            max: row.max,
         },
-        Seen::Absent => KevSeen {
+        Ok(None) => KevSeen {
             number: 0,
             found: 0,
             last_gc: 0,
             max: 0,
         },
-        Seen::Refused(why) => KevSeen {
+        Err(why) => KevSeen {
             number: why.number(),
             found: 0,
             last_gc: 0,

@@ -19,11 +19,13 @@ use Rattle.leaving.specs.Leaving.{leaving_each, apply_leaving, lent_leaving, len
 use Rattle.leaving.proofs.Left.{by-ops}
 use Rattle.rules.specs.declared.Mode.{Mode}
 use Rattle.rules.specs.declared.Profile.{Profile}
-use Rattle.rules.specs.declared.Refusal.{Refusal}
 use Rattle.rules.specs.declared.Refusal.TheVariants.{NoPlace, BadTable}
-use Rattle.rules.specs.declared.DeltaRead.TheVariants as read
-use Rattle.rules.specs.declared.Applied.{Applied}
-use Rattle.rules.specs.declared.Applied.TheVariants.{Nodes, Refused}
+use Rattle.std.specs.Prelude.{Err, Ok, Result}
+use Rattle.rules.specs.declared.DeltaFault.{DeltaFault}
+use Rattle.rules.specs.declared.DeltaRead.{DeltaRead}
+use Rattle.rules.proofs.Results.{err-is, ok-is}
+use Rattle.std.specs.Result.{is_err}
+use Rattle.std.proofs.lemmas.Bool.{false≢true}
 use Rattle.rules.proofs.Refusing.{whole-bytes}
 use Rattle.table_check.proofs.Entry.{area-back}
 use Rattle.profiles.proofs.Reading.{delta-plain}
@@ -40,50 +42,50 @@ module _ (s : List ℕ) (a : Accepted s) where
   pub accepted-parts : parts_from s 0 ≡ rule.parts_of a.0
   accepted-parts = parts.accepted-parts s a
 
-module _ (delta : List ℕ) (ops nodes : ℕ) (e : rule.delta_read delta ≡ read.Good ops nodes) where
-  pub accepted : (a : Accepted delta) × (nodes ≡ length (rule.parts_of a.0))
+module _ (delta : List ℕ) (x : DeltaRead) (e : rule.delta_read delta ≡ Ok x) where
+  pub accepted : (a : Accepted delta) × (x.nodes ≡ length (rule.parts_of a.0))
   unfolding rule.delta_read
   accepted = go (rule.read_delta delta) refl e
     where
-      go : (o : rule.Ops) → rule.read_delta delta ≡ o → rule.read_answer o ≡ read.Good ops nodes → (a : Accepted delta) × (nodes ≡ length (rule.parts_of a.0))
-      go (rule.Good os) q a = let k : length (rule.parts_of os) ≡ nodes = cc in ((os, q), sym k)
-      go (rule.Faulty y b) q a = let z : ◌≡◌ {A = ℕ} 0 1 = cc in absurd (omega arith)
+      go : (o : rule.Ops) → rule.read_delta delta ≡ o → rule.read_answer o ≡ Ok x → (a : Accepted delta) × (x.nodes ≡ length (rule.parts_of a.0))
+      go (rule.Good os) q a = ((os, q), ap (λ (y : DeltaRead). y.nodes) (sym (ok-is _ _ a)))
+      go (rule.Faulty y b) q a = absurd (false≢true (sym (ap is_err a)))
 
-  pub heads-found : (r : Heads) → AllHeads delta r.at r.count r.max → HeadsFound delta nodes r
+  pub heads-found : (r : Heads) → AllHeads delta r.at r.count r.max → HeadsFound delta x.nodes r
   heads-found r g =
       record {
         all = accepted.1 ∙ ap length (sym (accepted-parts delta accepted.0));
-        few = g.few ops nodes (sym e);
+        few = g.few x.ops x.nodes (sym e);
         long_at = g.long_at;
         long_count = g.long_count;
         long_max = g.long_max;
-        heads = g.heads ops nodes (sym e);
+        heads = g.heads x.ops x.nodes (sym e);
       }
 
 -- ---- in a kind of table
 
 -- what is accepted in a profile is the accepted delta
-as-accepted : (p : Profile) (s : List ℕ) (ops nodes : ℕ) → delta_read_as p s ≡ read.Good ops nodes → (a : Accepted s) → read_delta_as p s ≡ rule.Good a.0
+as-accepted : (p : Profile) (s : List ℕ) (x : DeltaRead) → delta_read_as p s ≡ Ok x → (a : Accepted s) → read_delta_as p s ≡ rule.Good a.0
 unfolding delta_read_as
-as-accepted p s ops nodes e a = go (read_delta_as p s) refl e
+as-accepted p s x e a = go (read_delta_as p s) refl e
   where
-    go : (o : rule.Ops) → read_delta_as p s ≡ o → rule.read_answer o ≡ read.Good ops nodes → o ≡ rule.Good a.0
+    go : (o : rule.Ops) → read_delta_as p s ≡ o → rule.read_answer o ≡ Ok x → o ≡ rule.Good a.0
     go (rule.Good os) q b = sym (delta-plain p s os q).0 ∙ a.1
-    go (rule.Faulty y b) q c = let z : ◌≡◌ {A = ℕ} 0 1 = cc in absurd (omega arith)
+    go (rule.Faulty y b) q c = absurd (false≢true (sym (ap is_err c)))
 
 -- ---- the call
 
 module _ (own delta : List ℕ) (clock : ℕ) (list l : List ℕ) where
   -- what the call gives
-  abbrev Outcome : Applied → List ℕ → List ℕ → Type 0
+  abbrev Outcome : Result ℕ DeltaFault → List ℕ → List ℕ → Type 0
   Outcome r l' list' = Gives (lent_leaving own delta clock list l) r (both l' list')
 
   -- where no node is left alone, it is `lent_apply` by definition
-  pub none_left : own ≡ [] → (r : Applied) (x : TableAndList) → Gives (lent_leaving own delta clock list l) r x → Gives (lent_apply delta clock list l) r x
+  pub none_left : own ≡ [] → (r : Result ℕ DeltaFault) (x : TableAndList) → Gives (lent_leaving own delta clock list l) r x → Gives (lent_apply delta clock list l) r x
   unfolding lent_leaving_as lent_apply_as apply_leaving
   none_left e r x g = subst (λ (o : List ℕ). Gives (lent_leaving o delta clock list l) r x) e g
 
-  pub bad-table : valid_whole l ≡ false → Outcome (Refused BadTable 0) l list
+  pub bad-table : valid_whole l ≡ false → Outcome (Err (record { why = BadTable; at = 0 })) l list
   unfolding lent_leaving_as
   bad-table e = (rw (lent_leaving_as, e), rw (lent_leaving_as, e))
 
@@ -94,32 +96,31 @@ module _ (own delta : List ℕ) (clock : ℕ) (list l : List ℕ) where
   ways = ways_in k
 
   module _ (v : valid_whole l ≡ true) where
-    pub at-fault : (why : Refusal) (at : ℕ) → delta_read_as k.profile delta ≡ read.Refused why at → Outcome (Refused why at) l list
+    pub at-fault : (fault : DeltaFault) → delta_read_as k.profile delta ≡ Err fault → Outcome (Err fault) l list
     unfolding lent_leaving_as delta_read_as
-    at-fault why at e = go (read_delta_as k.profile delta) refl e
+    at-fault fault e = go (read_delta_as k.profile delta) refl e
       where
-        go : (o : rule.Ops) → read_delta_as k.profile delta ≡ o → rule.read_answer o ≡ read.Refused why at → Outcome (Refused why at) l list
-        go (rule.Good ops) q a = let z : ◌≡◌ {A = ℕ} 0 1 = cc in absurd (omega arith)
+        go : (o : rule.Ops) → read_delta_as k.profile delta ≡ o → rule.read_answer o ≡ Err fault → Outcome (Err fault) l list
+        go (rule.Good ops) q a = absurd (false≢true (ap is_err a))
         go (rule.Faulty y b) q a =
-            let p : y ≡ why = cc in
-            let at-is : b ≡ at = cc in
-            (rw (lent_leaving_as, v, by-ops own ways delta clock (decode_whole l).table list, q, p, at-is), rw (lent_leaving_as, v, by-ops own ways delta clock (decode_whole l).table list, q) (ap (λ (t : List ℕ). both t list) (sym (whole-bytes l v))))
+            let n = by-ops own ways delta clock (decode_whole l).table list in
+            (ap (λ (f : DeltaFault). Err f) (sym (err-is _ _ a)) ∙ rw (lent_leaving_as, v, n, q), rw (lent_leaving_as, v, n, q) (ap (λ (t : List ℕ). both t list) (sym (whole-bytes l v))))
 
-    module _ (ops nodes : ℕ) (e : delta_read_as k.profile delta ≡ read.Good ops nodes) where
+    module _ (x : DeltaRead) (e : delta_read_as k.profile delta ≡ Ok x) where
       -- document 01 accepts it too
-      pub plainly : rule.delta_read delta ≡ read.Good ops nodes
-      plainly = as-good k.profile delta ops nodes e
+      pub plainly : rule.delta_read delta ≡ Ok x
+      plainly = as-good k.profile delta x.ops x.nodes e
 
       abbrev a : Accepted delta
-      a = (accepted delta ops nodes plainly).0
+      a = (accepted delta x plainly).0
 
-      count : nodes ≡ length (rule.parts_of a.0)
-      count = (accepted delta ops nodes plainly).1
+      count : x.nodes ≡ length (rule.parts_of a.0)
+      count = (accepted delta x plainly).1
 
       reads : ways.reads delta ≡ rule.Good a.0
-      reads = as-accepted k.profile delta ops nodes e a
+      reads = as-accepted k.profile delta x e a
 
-      pub no-places : length list < nodes → Outcome (Refused NoPlace 0) l list
+      pub no-places : length list < x.nodes → Outcome (Err (record { why = NoPlace; at = 0 })) l list
       unfolding lent_leaving_as
       no-places h =
           let q : ways.reads delta ≡ rule.Good a.0 = reads in
@@ -127,9 +128,9 @@ module _ (own delta : List ℕ) (clock : ℕ) (list l : List ℕ) where
           (rw (lent_leaving_as, v, by-ops own ways delta clock (decode_whole l).table list, q, n), rw (lent_leaving_as, v, by-ops own ways delta clock (decode_whole l).table list, q, n) (ap (λ (t : List ℕ). both t list) (sym (whole-bytes l v))))
 
       -- the area came back as s
-      pub applied-all : nodes ≤ length list → (mode : Mode) → mode ≡ k.mode → (profile : Profile) → profile ≡ k.profile → (s list' : List ℕ)
+      pub applied-all : x.nodes ≤ length list → (mode : Mode) → mode ≡ k.mode → (profile : Profile) → profile ≡ k.profile → (s list' : List ℕ)
           → both s list' ≡ parts_leaving own (kind mode profile) clock (parts_from delta 0) list (area_of l)
-          → Outcome (Nodes nodes) (s ++ drop table_width l) list'
+          → Outcome (Ok x.nodes) (s ++ drop table_width l) list'
       unfolding lent_leaving_as
       applied-all h mode m profile f s list' p =
           let q : ways.reads delta ≡ rule.Good a.0 = reads in
@@ -142,4 +143,4 @@ module _ (own delta : List ℕ) (clock : ℕ) (list l : List ℕ) where
           ∙ ap (λ (xs : List rule.Part). parts_leaving own k clock xs list (area_of l)) same in
           let t : s ++ drop table_width l ≡ encode_whole (with_table after.table (decode_whole l)) =
           area-back l v after.table s (ap (λ (x : TableAndList). x.table) e) in
-          (rw (lent_leaving_as, v, by-ops own ways delta clock (decode_whole l).table list, q, n) (ap Nodes count), rw (lent_leaving_as, v, by-ops own ways delta clock (decode_whole l).table list, q, n) (ap₂ both t (ap (λ (x : TableAndList). x.list) e)))
+          (rw (lent_leaving_as, v, by-ops own ways delta clock (decode_whole l).table list, q, n) (ap Ok count), rw (lent_leaving_as, v, by-ops own ways delta clock (decode_whole l).table list, q, n) (ap₂ both t (ap (λ (x : TableAndList). x.list) e)))

@@ -9,7 +9,7 @@ ghost use Rattle.rules.specs.Lent.{both, lent_apply};
 ghost use Rattle.leaving.specs.Leaving.{lent_leaving};
 ghost use Rattle.rules.specs.Whole.{whole_width, decode_whole, valid_whole};
 
-use rules::{Applied, DeltaRead, Mode, Refusal};
+use rules::{DeltaFault, Mode, Refusal};
 use table::layout;
 
 // The mode that stands in a table's bytes.
@@ -28,43 +28,43 @@ pub fn leaving_known(
     delta: &[u8],
     clock: u64,
     answers: &mut [u8],
-) -> Applied
+) -> Result<usize, DeltaFault>
     requires { valid_whole table.old ≡ true }
     ensures { Gives (lent_leaving own.now delta.now clock answers.old table.old)
         result (both table.new answers.new) }
 {
     let heads = delta_read::read_heads(delta);
-    let verdict = heads.read;
     let profile = profile_check::profile_of(table);
-    let read = delta_form::read_as(profile, delta, verdict);
-    match read {
-        DeltaRead::Refused { why, at } => Applied::Refused { why, at },
-        DeltaRead::Good { ops: _, nodes } => {
-            if answers.len() < nodes {
-                return Applied::Refused {
-                    why: Refusal::NoPlace,
-                    at: 0,
-                };
-            }
-            let mode = mode_of(table);
-            apply_parts::apply_each_leaving(
-                &mut table[..layout::AREA],
-                own,
-                mode,
-                profile,
-                delta,
-                heads,
-                nodes,
-                clock,
-                answers,
-            );
-            Applied::Nodes(nodes)
-        }
+    let read = delta_form::read_as(profile, delta, heads.read)?;
+    let nodes = read.nodes;
+    if answers.len() < nodes {
+        return Err(DeltaFault {
+            why: Refusal::NoPlace,
+            at: 0,
+        });
     }
+    let mode = mode_of(table);
+    apply_parts::apply_each_leaving(
+        &mut table[..layout::AREA],
+        own,
+        mode,
+        profile,
+        delta,
+        heads,
+        nodes,
+        clock,
+        answers,
+    );
+    Ok(nodes)
 }
 
 // The same where no node is left alone.
-pub fn apply_known(table: &mut [u8], delta: &[u8], clock: u64, answers: &mut [u8]) -> Applied
+pub fn apply_known(
+    table: &mut [u8],
+    delta: &[u8],
+    clock: u64,
+    answers: &mut [u8],
+) -> Result<usize, DeltaFault>
     requires { valid_whole table.old ≡ true }
     ensures { Gives (lent_apply delta.now clock answers.old table.old)
         result (both table.new answers.new) }
@@ -74,17 +74,22 @@ pub fn apply_known(table: &mut [u8], delta: &[u8], clock: u64, answers: &mut [u8
 }
 
 // Applies the bytes of a delta to a lent table at the receiver's clock, and gives one answer for each node delta. It takes any bytes: 14 first, then as above.
-pub fn apply(table: &mut [u8], delta: &[u8], clock: u64, answers: &mut [u8]) -> Applied
+pub fn apply(
+    table: &mut [u8],
+    delta: &[u8],
+    clock: u64,
+    answers: &mut [u8],
+) -> Result<usize, DeltaFault>
     ensures { Tells applied_told (lent_apply delta.now clock answers.old table.old)
         result (both table.new answers.new) }
 {
-    if table_check::check_table(table) {
-        return apply_known(table, delta, clock, answers);
+    if !table_check::check_table(table) {
+        return Err(DeltaFault {
+            why: Refusal::BadTable,
+            at: 0,
+        });
     }
-    Applied::Refused {
-        why: Refusal::BadTable,
-        at: 0,
-    }
+    apply_known(table, delta, clock, answers)
 }
 
 // The same, but for the nodes of `own`: the hub's own, which it alone writes. Such a node answers Reject and stays as it is, whatever the bytes say; one that
@@ -95,15 +100,15 @@ pub fn apply_leaving(
     delta: &[u8],
     clock: u64,
     answers: &mut [u8],
-) -> Applied
+) -> Result<usize, DeltaFault>
     ensures { Tells applied_told (lent_leaving own.now delta.now clock answers.old table.old)
         result (both table.new answers.new) }
 {
-    if table_check::check_table(table) {
-        return leaving_known(table, own, delta, clock, answers);
+    if !table_check::check_table(table) {
+        return Err(DeltaFault {
+            why: Refusal::BadTable,
+            at: 0,
+        });
     }
-    Applied::Refused {
-        why: Refusal::BadTable,
-        at: 0,
-    }
+    leaving_known(table, own, delta, clock, answers)
 }

@@ -11,7 +11,7 @@ use borrow.Author.Tests.{le-leb, lt-leb, lt-ltb, le-ltb, leb-true, leb-false}
 use Rattle.fields.specs.Choice.{pick, ◌∈◌, here, later}
 use Rattle.fields.specs.Blocks.{insert_at}
 use Rattle.fields.specs.Order.{same_bytes, less_bytes, order_of}
-use Rattle.fields.specs.declared.Order.TheVariants.{More}
+use Rattle.std.specs.declared.cmp.Ordering.TheVariants.{Greater}
 use Rattle.fields.proofs.Choice.{in-none}
 use Rattle.fields.proofs.Lent.{seen}
 use Rattle.fields.proofs.Blocks.{length-insert}
@@ -28,7 +28,7 @@ use Rattle.rules.specs.declared.Status.{Status}
 use Rattle.rules.specs.declared.Status.TheVariants.{Set, Delete, Ttl}
 use Rattle.delta_op.specs.declared.Op.{Op}
 use Rattle.delta_op.specs.declared.Op.TheVariants.{Node, KeyValue as Record, SetMaxVersion}
-use Rattle.delta_op.specs.declared.OpRead.TheVariants.{Got}
+use Rattle.std.specs.Prelude.{Ok}
 use Rattle.delta_op.specs.Places.{op_of, op_at, Inside}
 use Rattle.delta_op.specs.Plain.{ops_from, recs_from}
 use Rattle.delta_op.proofs.Plain.{plain-next}
@@ -81,7 +81,7 @@ module _ (key b : List ℕ) where
   last-of-none e =
       sym (start (to_key key) (recs_in b)) ∙ end (to_key key) (recs_in b) 0 (omega (arith, length-recs b)) ∙ ap Free e
 
-  pub behind-last : keys_rise (recs_in b) ≡ true → (j : ℕ) → j + 1 ≡ count_of b → order_of key (rec_at j b).kv.key ≡ More → find_key key (recs_in b) ≡ Free (count_of b)
+  pub behind-last : keys_rise (recs_in b) ≡ true → (j : ℕ) → j + 1 ≡ count_of b → order_of key (rec_at j b).kv.key ≡ Greater → find_key key (recs_in b) ≡ Free (count_of b)
   behind-last s j e q =
       sym (half-more key b s j (omega arith) q) ∙ end (to_key key) (recs_in b) (j + 1) (omega (arith, length-recs b)) ∙ ap Free e
 
@@ -289,7 +289,7 @@ module _ (held gc clock : ℕ) (s : List ℕ) (at : ℕ) (b₀ : List ℕ) where
     unfolding whole recs_from rule.recs_of take_all
     nothing_left e = finish b (recs_in b) inv.0 inv.2 (sym (ap (λ (os : List rule.Op). take_all held gc clock (rule.recs_of os) (recs_in b)) e) ∙ inv.3)
 
-    module _ (h : i < length s) (o : Op) (next : ℕ) (e : op_at s i ≡ Got o next) (r : Step) (b' : List ℕ) (t : Stepped held gc clock (op_of s o) b r b') where
+    module _ (h : i < length s) (o : Op) (next : ℕ) (e : op_at s i ≡ (Ok (o, next))) (r : Step) (b' : List ℕ) (t : Stepped held gc clock (op_of s o) b r b') where
       ops : ops_from s i ≡ op_of s o ∷ ops_from s next
       ops = plain-next s i o next h e
 
@@ -318,7 +318,7 @@ module _ (held gc clock : ℕ) (s : List ℕ) (at : ℕ) (b₀ : List ℕ) where
       pub goes : r ≡ Taken → So-far held gc clock s at b₀ b' next
       unfolding whole recs_from
       goes q =
-          let w : Within (length s) i (Got o next) = subst (Within (length s) i) e (op-within s i) in
+          let w : Within (length s) i (Ok (o, next)) = subst (Within (length s) i) e (op-within s i) in
           let d = with-new (λ f. let z : ◌≡◌ {A = ℕ} 0 1 = cc in absurd (omega arith)) in
           let l : recs_in b' ≡ after_op held gc clock (op_of s o) (recs_in b) = ap (λ (x : Entry). x.node.recs) d in (
             t.rising,

@@ -14,8 +14,9 @@ ghost use Rattle.table.specs.Tests.{count_of, recs_in};
 ghost use Rattle.table.specs.Changes.{rec_of};
 ghost use Rattle.apply_node.specs.Taking.{takes_as, carried, Rising, Tried, take_one, Stepped};
 
-use delta_op::{Op, OpRead};
+use delta_op::Op;
 use rules::{Header, Status};
+use std::cmp::Ordering;
 use table::layout;
 use table_read::Place;
 
@@ -67,9 +68,9 @@ fn comes_last(node: &[u8], key: &[u8]) -> bool
         return true;
     }
     match fields::compare(key, table::key_of(table::record_of(node, n - 1))) {
-        fields::Order::Less => false,
-        fields::Order::Same => false,
-        fields::Order::More => true,
+        Ordering::Less => false,
+        Ordering::Equal => false,
+        Ordering::Greater => true,
     }
 }
 
@@ -196,9 +197,10 @@ pub fn take_records(
         node.old result node.new }
 {
     let mut i = at;
+    // An operation is as long as its texts, so the place goes by variable steps.
     while i < delta.len() {
         let read = delta_op::read_op(delta, i);
-        let OpRead::Got { op, next } = read else {
+        let Ok((op, next)) = read else {
             return true;
         };
         let step = take_op(node, delta, op, held, last_gc, clock);

@@ -43,7 +43,7 @@ use Rattle.delta_op.proofs.Plain.{good-plain}
 use Rattle.table.specs.Fits.{LaidNode}
 use Rattle.table.specs.Changes.{with_node}
 use Rattle.table_read.specs.Find.{span_in, header_of}
-use Rattle.table_read.specs.declared.Span.TheVariants.{Held, Missing}
+use Rattle.std.specs.Prelude.{None, Some}
 use Rattle.table_read.proofs.Held.{node_seen, held-laid, held-rises, held-node, held_gives, missing-node, stays-gives}
 use Rattle.rules.specs.declared.Header.{Header}
 use Rattle.table.proofs.Tables.{length-table, decode-encode, valid-encode, encode-decode, valid-obeys, valid-long}
@@ -114,11 +114,11 @@ numbers-read k clock s gc gc' from from' max at p q b r b' t = rw (p, q) at t
 -- ---- one node delta on a table
 
 module _ (own : List ℕ) (k : Kind) (l : List ℕ) (v : valid l ≡ true) (clock : ℕ) (x : rule.Part) where
-  pub part-missing : span_in x.number l ≡ Missing → Gives (stored (part_leaving own k clock x (decode l))) node.Unknown l
+  pub part-missing : span_in x.number l ≡ None → Gives (stored (part_leaving own k clock x (decode l))) node.Unknown l
   part-missing e =
       stays-gives x.number l v (part_leaving own k clock x (decode l)) node.Unknown (ap (λ (o : Option Node). on_held_by (leaving own (apply_node (ways_in k) clock) x.number) x o (decode l)) (missing-node x.number l v e))
 
-  module _ {start end : ℕ} (e : span_in x.number l ≡ Held start end) where
+  module _ {start end : ℕ} (e : span_in x.number l ≡ (Some (record { start = start; end = end }))) where
     -- what is lent to the node's rule
     abbrev lent : List ℕ
     lent = take (end - start) (drop start l)

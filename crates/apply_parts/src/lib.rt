@@ -15,7 +15,6 @@ ghost use Rattle.apply_parts.specs.Applying.{node_applied, part_leaving, parts_a
 
 use delta_read::Heads;
 use rules::{DeltaStatus, Mode, NodeAnswer, Profile, wire};
-use table_read::Span;
 
 // ---- one node
 
@@ -124,26 +123,24 @@ fn apply_part(
     let number = fields::read_u64(delta, at + wire::NODE_NUMBER);
     let last_gc = fields::read_u64(delta, at + wire::NODE_LAST_GC);
     let from = fields::read_u64(delta, at + wire::NODE_FROM);
-    match table_read::node_span(table, number) {
-        Span::Held { start, end } => {
-            if table_read::is_excluded(own, number) {
-                return NodeAnswer::Reject;
-            }
-            apply_node(
-                &mut table[start..end],
-                mode,
-                profile,
-                delta,
-                at + wire::NODE_WIDTH,
-                count,
-                last_gc,
-                from,
-                max,
-                clock,
-            )
-        }
-        Span::Missing => NodeAnswer::Unknown,
+    let Some(span) = table_read::node_span(table, number) else {
+        return NodeAnswer::Unknown;
+    };
+    if table_read::is_excluded(own, number) {
+        return NodeAnswer::Reject;
     }
+    apply_node(
+        &mut table[span.start..span.end],
+        mode,
+        profile,
+        delta,
+        at + wire::NODE_WIDTH,
+        count,
+        last_gc,
+        from,
+        max,
+        clock,
+    )
 }
 
 // Applies the node deltas that were found in an accepted delta to a good table, one answer for each, and leaves the nodes of `own` alone.
@@ -166,13 +163,11 @@ pub fn apply_each_leaving(
     let places = heads.at;
     let counts = heads.count;
     let maxes = heads.max;
-    let mut i = 0;
-    while i < nodes {
+    for i in 0..nodes {
         let answer = apply_part(
             table, own, mode, profile, delta, places[i], counts[i], maxes[i], clock,
         );
         answers[i] = answer.code();
-        i += 1;
     }
 }
 

@@ -11,12 +11,11 @@ use Rattle.rules.specs.Table.{Table, among}
 use Rattle.rules.specs.Digest.{NodeDigest}
 use Rattle.rules.specs.Compute.{told_of, from_of}
 use Rattle.digest_read.specs.Held.{pair_of}
-use Rattle.digest_read.specs.declared.Pair.{Pair}
+use Rattle.rules.specs.declared.Pair.{Pair}
 use Rattle.table_read.specs.Find.{entry_at}
 use Rattle.compute_order.specs.Line.{is_stale}
 use Rattle.compute.specs.Lined.{from_at, staleness_of}
-use Rattle.compute.specs.declared.Staleness.{Staleness}
-use Rattle.compute.specs.declared.Staleness.TheVariants.{UpToDate, From}
+use Rattle.std.specs.Prelude.{None, Option, Some}
 
 -- ---- from
 
@@ -41,41 +40,41 @@ module _ (excluded : List ℕ) (ds : List NodeDigest) (t : Table) (p n : ℕ) (e
       ap₂ (λ (x : Bool) (y : Bool). not x && y) (ap (λ (k : ℕ). among k excluded) (sym e) ∙ f)
       (ap (λ (k : ℕ). ltb (told_of k ds).max (entry_at t p).node.max) (sym e) ∙ g)
 
-  pub left_out : (b : Bool) → b ≡ among n excluded → b ≡ true → UpToDate ≡ staleness_of excluded ds t p
+  pub left_out : (b : Bool) → b ≡ among n excluded → b ≡ true → None ≡ staleness_of excluded ds t p
   left_out b f g =
-      ap (λ (x : Bool). pick x (From (from_at ds t p)) UpToDate)
+      ap (λ (x : Bool). pick x (Some (from_at ds t p)) None)
       (sym (is-so true (ltb (told_of n ds).max (entry_at t p).node.max) (sym f ∙ g) refl))
 
   module _ (b : Bool) (f : b ≡ among n excluded) (g : b ≡ false) (r : Pair) (told : r ≡ pair_of (told_of n ds)) (m : ℕ) (own : m ≡ (entry_at t p).node.max) where
     told-max : r.max ≡ (told_of n ds).max
     told-max = ap (λ (x : Pair). x.max) told
 
-    pub level : m ≤ r.max → UpToDate ≡ staleness_of excluded ds t p
+    pub level : m ≤ r.max → None ≡ staleness_of excluded ds t p
     level h =
         let no : ltb (told_of n ds).max (entry_at t p).node.max ≡ false = le-ltb (told_of n ds).max (entry_at t p).node.max (rw (← told-max, ← own) h) in
-        ap (λ (x : Bool). pick x (From (from_at ds t p)) UpToDate) (sym (is-so false false (sym f ∙ g) no))
+        ap (λ (x : Bool). pick x (Some (from_at ds t p)) None) (sym (is-so false false (sym f ∙ g) no))
 
-    pub behind : r.max < m → (w x : ℕ) → w ≡ (entry_at t p).node.last_gc → x ≡ from_of w r.last_gc r.max → From x ≡ staleness_of excluded ds t p
+    pub behind : r.max < m → (w x : ℕ) → w ≡ (entry_at t p).node.last_gc → x ≡ from_of w r.last_gc r.max → Some x ≡ staleness_of excluded ds t p
     behind h w x q k =
         let yes : ltb (told_of n ds).max (entry_at t p).node.max ≡ true = lt-ltb (told_of n ds).max (entry_at t p).node.max (rw (← told-max, ← own) h) in
         let is : x ≡ from_at ds t p =
         k
         ∙ (λ i. from_of (q i) (told i).last_gc (told i).max)
         ∙ ap (λ (j : ℕ). from_of (entry_at t p).node.last_gc (told_of j ds).last_gc (told_of j ds).max) e in
-        ap From is ∙ ap (λ (x : Bool). pick x (From (from_at ds t p)) UpToDate) (sym (is-so false true (sym f ∙ g) yes))
+        ap Some is ∙ ap (λ (x : Bool). pick x (Some (from_at ds t p)) None) (sym (is-so false true (sym f ∙ g) yes))
 
 -- what an answer says
-module _ (excluded : List ℕ) (ds : List NodeDigest) (t : Table) (p : ℕ) (r : Staleness) (e : r ≡ staleness_of excluded ds t p) where
-  pub told-stale : (x : ℕ) → r ≡ From x → (is_stale excluded ds t p ≡ true) × (x ≡ from_at ds t p)
+module _ (excluded : List ℕ) (ds : List NodeDigest) (t : Table) (p : ℕ) (r : (Option ℕ)) (e : r ≡ staleness_of excluded ds t p) where
+  pub told-stale : (x : ℕ) → r ≡ Some x → (is_stale excluded ds t p ≡ true) × (x ≡ from_at ds t p)
   told-stale x f = go (is_stale excluded ds t p) (sym f ∙ e)
     where
-      go : (b : Bool) → From x ≡ pick b (From (from_at ds t p)) UpToDate → (b ≡ true) × (x ≡ from_at ds t p)
+      go : (b : Bool) → Some x ≡ pick b (Some (from_at ds t p)) None → (b ≡ true) × (x ≡ from_at ds t p)
       go true q = (refl, cc)
       go false q = let z : ◌≡◌ {A = ℕ} 0 1 = cc in absurd (omega arith)
 
-  pub told-level : r ≡ UpToDate → is_stale excluded ds t p ≡ false
+  pub told-level : r ≡ None → is_stale excluded ds t p ≡ false
   told-level f = go (is_stale excluded ds t p) (sym f ∙ e)
     where
-      go : (b : Bool) → UpToDate ≡ pick b (From (from_at ds t p)) UpToDate → b ≡ false
+      go : (b : Bool) → None ≡ pick b (Some (from_at ds t p)) None → b ≡ false
       go true q = let z : ◌≡◌ {A = ℕ} 0 1 = cc in absurd (omega arith)
       go false q = refl

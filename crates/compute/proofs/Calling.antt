@@ -26,14 +26,12 @@ use Rattle.rules.specs.Whole.{decode_whole, valid_whole}
 use Rattle.rules.specs.Lent.{from_table, lent_compute}
 use Rattle.rules.proofs.Accepted.{cut-bytes}
 use Rattle.rules.specs.declared.Refusal.TheVariants.{BadMtu, NoPlace, BadTies, BadTable, BadEdition}
-use Rattle.compute_write.specs.declared.Sent.{Sent}
+use Rattle.rules.specs.declared.Sent.{Sent}
 use Rattle.compute_write.proofs.Steps.{gives}
-use Rattle.rules.specs.declared.Computed.{Computed}
-use Rattle.rules.specs.declared.Computed.TheVariants as computed
+use Rattle.std.specs.Prelude.{Err, Ok, Result}
+use Rattle.rules.specs.Results.{done}
 use Rattle.compute.specs.Lined.{at_front, delta_in}
 use Rattle.compute.specs.Asking.{mtu_fits, is_free, asked_of}
-use Rattle.compute.specs.declared.Asked.{Asked}
-use Rattle.compute.specs.declared.Asked.TheVariants as asked
 
 -- ---- what the numbers of a call say
 
@@ -44,12 +42,12 @@ pub record Granted (mtu place room ties nodes : ℕ) : Type 0 where
   pub most : mtu ≤ max_delta
 
 module _ (mtu place room ties nodes : ℕ) where
-  pub granted : asked_of mtu place room ties nodes ≡ asked.Good → Granted mtu place room ties nodes
+  pub granted : asked_of mtu place room ties nodes ≡ done → Granted mtu place room ties nodes
   unfolding asked_of
   granted e = go (mtu_fits mtu) refl (is_free place mtu room) refl (eqb ties nodes) refl e
     where
       go : (a : Bool) → mtu_fits mtu ≡ a → (b : Bool) → is_free place mtu room ≡ b → (c : Bool) → eqb ties nodes ≡ c
-          → pick a (pick b (pick c asked.Good (asked.Refused BadTies)) (asked.Refused NoPlace)) (asked.Refused BadMtu) ≡ asked.Good
+          → pick a (pick b (pick c done (Err BadTies)) (Err NoPlace)) (Err BadMtu) ≡ done
           → Granted mtu place room ties nodes
       go true m true f true g q =
           record {
@@ -69,45 +67,45 @@ unfolding delta_for
 delta-fits excluded ties mtu ds t = cut-bytes mtu _
 
 module _ (excluded ties : List ℕ) (mtu place : ℕ) (read : DigestRead) (t : Table) (l : Bytes) where
-  abbrev numbers : Asked
+  abbrev numbers : (Result (Unit {0}) Refusal)
   numbers = asked_of mtu place (length l) (length ties) (length t)
 
-  abbrev on : Asked → Given Computed Bytes
-  on asked.Good = on_digest excluded ties mtu place read t l
-  on (asked.Refused r) = given (computed.Refused r) l
+  abbrev on : (Result (Unit {0}) Refusal) → Given (Result Sent Refusal) Bytes
+  on (Ok _) = on_digest excluded ties mtu place read t l
+  on (Err r) = given (Err r) l
 
   by-numbers : on numbers ≡ compute_for excluded ties mtu place read t l
   unfolding asked_of
   by-numbers = go (mtu_fits mtu) (is_free place mtu (length l)) (eqb (length ties) (length t))
     where
-      go : (a b c : Bool) → on (pick a (pick b (pick c asked.Good (asked.Refused BadTies)) (asked.Refused NoPlace)) (asked.Refused BadMtu))
-          ≡ pick a (pick b (pick c (on asked.Good) (on (asked.Refused BadTies))) (on (asked.Refused NoPlace))) (on (asked.Refused BadMtu))
+      go : (a b c : Bool) → on (pick a (pick b (pick c done (Err BadTies)) (Err NoPlace)) (Err BadMtu))
+          ≡ pick a (pick b (pick c (on done) (on (Err BadTies))) (on (Err NoPlace))) (on (Err BadMtu))
       go true true true = refl
       go true true false = refl
       go true false c = refl
       go false b c = refl
 
   -- 7, 8, 15
-  pub by-refused : (r : Refusal) → numbers ≡ asked.Refused r → Gives (compute_for excluded ties mtu place read t l) (computed.Refused r) l
+  pub by-refused : (r : Refusal) → numbers ≡ Err r → Gives (compute_for excluded ties mtu place read t l) (Err r) l
   by-refused r e = gives _ _ (compute_for excluded ties mtu place read t l) (ap on (sym e) ∙ by-numbers)
 
   -- the digest's
-  pub by-digest : (r : Refusal) → numbers ≡ asked.Good → read ≡ Refused r
-      → Gives (compute_for excluded ties mtu place read t l) (computed.Refused r) l
+  pub by-digest : (r : Refusal) → numbers ≡ done → read ≡ Refused r
+      → Gives (compute_for excluded ties mtu place read t l) (Err r) l
   by-digest r e f =
       gives _ _ (compute_for excluded ties mtu place read t l)
       (ap (λ (d : DigestRead). on_digest excluded ties mtu place d t l) (sym f) ∙ ap on (sym e) ∙ by-numbers)
 
   -- the delta is written
-  pub by-delta : (ds : List NodeDigest) (rest : List ℕ) → numbers ≡ asked.Good → read ≡ Entries ds rest
+  pub by-delta : (ds : List NodeDigest) (rest : List ℕ) → numbers ≡ done → read ≡ Entries ds rest
       → written (delta_for excluded ties mtu ds t) place l ≡ compute_for excluded ties mtu place read t l
   by-delta ds rest e f = ap (λ (d : DigestRead). on_digest excluded ties mtu place d t l) (sym f) ∙ ap on (sym e) ∙ by-numbers
 
   -- what was written into the part of the datagram that is as long as the MTU
-  pub by_part : (ds : List NodeDigest) (rest : Bytes) (r : Sent) (after : Bytes) → place + mtu ≤ length l → numbers ≡ asked.Good
+  pub by_part : (ds : List NodeDigest) (rest : Bytes) (r : Sent) (after : Bytes) → place + mtu ≤ length l → numbers ≡ done
       → read ≡ Entries ds rest → let part : Bytes = take (place + mtu - place) (drop place l) in
       Gives (delta_in excluded ties ds t part) r after → length after ≡ length part
-      → Gives (compute_for excluded ties mtu place read t l) (computed.Delta r.ops r.bytes) (put_mid place (place + mtu - place) l after)
+      → Gives (compute_for excluded ties mtu place read t l) (Ok (record { ops = r.ops; bytes = r.bytes })) (put_mid place (place + mtu - place) l after)
   by_part ds rest r after h e f g k =
       let part : Bytes = take (place + mtu - place) (drop place l) in
       let long : length part ≡ mtu = ap length (seen place mtu l) ∙ length_part place mtu l h in
@@ -116,12 +114,12 @@ module _ (excluded ties : List ℕ) (mtu place : ℕ) (read : DigestRead) (t : T
       let whole : put_mid place (place + mtu - place) l after ≡ put place (delta_bytes d) l =
       lent-put place mtu 0 (delta_bytes d) l after h (rw zero-add (delta-fits excluded ties mtu ds t)) own.1 k
       ∙ ap (λ (n : ℕ). put n (delta_bytes d) l) (add-zero place) in
-      gives _ _ (compute_for excluded ties mtu place read t l) ((λ i. given (computed.Delta (own.0 i).ops (own.0 i).bytes) (whole i)) ∙ by-delta ds rest e f)
+      gives _ _ (compute_for excluded ties mtu place read t l) ((λ i. given (Ok (record { ops = (own.0 i).ops; bytes = (own.0 i).bytes })) (whole i)) ∙ by-delta ds rest e f)
 
 -- ---- 20
 
 module _ (edition : ℕ) (excluded ties : List ℕ) (mtu place : ℕ) (digest : Bytes) (t : Table) (l : Bytes) where
-  pub no-edition : is_edition edition ≡ false → Gives (compute edition excluded ties mtu place digest t l) (computed.Refused BadEdition) l
+  pub no-edition : is_edition edition ≡ false → Gives (compute edition excluded ties mtu place digest t l) (Err BadEdition) l
   unfolding compute
   no-edition e = gives _ _ _ (sym (pick-false (is_edition edition) _ _ e))
 
@@ -132,7 +130,7 @@ module _ (edition : ℕ) (excluded ties : List ℕ) (mtu place : ℕ) (digest : 
 -- ---- 14
 
 pub bad-table : (edition : ℕ) (excluded ties : List ℕ) (mtu place : ℕ) (digest l datagram : Bytes) → valid_whole l ≡ false
-    → Gives (lent_compute edition excluded ties mtu place digest datagram l) (computed.Refused BadTable) datagram
+    → Gives (lent_compute edition excluded ties mtu place digest datagram l) (Err BadTable) datagram
 unfolding from_table
 bad-table edition excluded ties mtu place digest l datagram e = gives _ _ _ (sym (pick-false (valid_whole l) _ _ e))
 
@@ -157,6 +155,6 @@ module _ (mtu place room ties nodes : ℕ) where
   before-end h = rw (le-leb place room h) refl
 
   pub asks : (a b c : Bool) → mtu_fits mtu ≡ a → is_free place mtu room ≡ b → eqb ties nodes ≡ c
-      → pick a (pick b (pick c asked.Good (asked.Refused BadTies)) (asked.Refused NoPlace)) (asked.Refused BadMtu) ≡ asked_of mtu place room ties nodes
+      → pick a (pick b (pick c done (Err BadTies)) (Err NoPlace)) (Err BadMtu) ≡ asked_of mtu place room ties nodes
   unfolding asked_of
-  asks a b c e f g = λ i. pick (sym e i) (pick (sym f i) (pick (sym g i) asked.Good (asked.Refused BadTies)) (asked.Refused NoPlace)) (asked.Refused BadMtu)
+  asks a b c e f g = λ i. pick (sym e i) (pick (sym f i) (pick (sym g i) done (Err BadTies)) (Err NoPlace)) (Err BadMtu)

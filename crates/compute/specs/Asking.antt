@@ -3,8 +3,9 @@ use Rattle.std.specs.Prelude.{ℕ, ◌-◌, Bool, ◌&&◌, leb, eqb}
 use Rattle.fields.specs.Choice.{pick}
 use Rattle.rules.specs.Sizes.{least_mtu, max_delta}
 use Rattle.rules.specs.declared.Refusal.TheVariants.{BadMtu, NoPlace, BadTies}
-use Rattle.compute.specs.declared.Asked.{Asked}
-use Rattle.compute.specs.declared.Asked.TheVariants.{Good, Refused}
+use Rattle.std.specs.Prelude.{Err, Result}
+use Rattle.rules.specs.declared.Refusal.{Refusal}
+use Rattle.rules.specs.Results.{done}
 
 abbrev pub mtu_fits : (mtu : ℕ) → Bool
 mtu_fits mtu = leb least_mtu mtu && leb mtu max_delta
@@ -13,6 +14,6 @@ mtu_fits mtu = leb least_mtu mtu && leb mtu max_delta
 abbrev pub is_free : (place mtu room : ℕ) → Bool
 is_free place mtu room = leb place room && leb mtu (room - place)
 
-unfoldable pub asked_of : (mtu place room ties nodes : ℕ) → Asked
+unfoldable pub asked_of : (mtu place room ties nodes : ℕ) → (Result (Unit {0}) Refusal)
 asked_of mtu place room ties nodes =
-    pick (mtu_fits mtu) (pick (is_free place mtu room) (pick (eqb ties nodes) Good (Refused BadTies)) (Refused NoPlace)) (Refused BadMtu)
+    pick (mtu_fits mtu) (pick (is_free place mtu room) (pick (eqb ties nodes) done (Err BadTies)) (Err NoPlace)) (Err BadMtu)

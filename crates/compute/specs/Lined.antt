@@ -14,9 +14,8 @@ use Rattle.table_read.specs.Find.{entry_at}
 use Rattle.compute_stale.specs.Arranged.{listed}
 use Rattle.compute_order.specs.Line.{is_stale, line_of}
 use Rattle.compute_write.specs.Sending.{counts}
-use Rattle.compute_write.specs.declared.Sent.{Sent}
-use Rattle.compute.specs.declared.Staleness.{Staleness}
-use Rattle.compute.specs.declared.Staleness.TheVariants.{UpToDate, From}
+use Rattle.rules.specs.declared.Sent.{Sent}
+use Rattle.std.specs.Prelude.{None, Option, Some}
 use Rattle.compute.specs.declared.Lined.{Lined}
 
 -- ---- the line
@@ -25,8 +24,8 @@ use Rattle.compute.specs.declared.Lined.{Lined}
 abbrev pub from_at : (digest : List NodeDigest) (table : Table) (p : ℕ) → ℕ
 from_at ds t p = from_of (entry_at t p).node.last_gc (told_of (entry_at t p).number ds).last_gc (told_of (entry_at t p).number ds).max
 
-abbrev pub staleness_of : (excluded : List ℕ) (digest : List NodeDigest) (table : Table) (p : ℕ) → Staleness
-staleness_of excluded ds t p = pick (is_stale excluded ds t p) (From (from_at ds t p)) UpToDate
+abbrev pub staleness_of : (excluded : List ℕ) (digest : List NodeDigest) (table : Table) (p : ℕ) → (Option ℕ)
+staleness_of excluded ds t p = pick (is_stale excluded ds t p) (Some (from_at ds t p)) None
 
 -- the stale nodes in their order, each with its from
 pub record LinedUp (excluded : List ℕ) (digest : List NodeDigest) (ties : List ℕ) (table : Table) (r : Lined) : Type 0 where

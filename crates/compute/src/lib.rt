@@ -15,19 +15,9 @@ ghost use Rattle.rules.specs.Lent.{lent_compute};
 ghost use Rattle.compute.specs.Asking.{mtu_fits, is_free, asked_of};
 ghost use Rattle.compute.specs.Lined.{staleness_of, LinedUp, delta_in};
 
-use compute_write::Sent;
-use digest_read::{Digest, DigestRead};
-use rules::{Computed, Refusal, sizes, wire};
+use digest_read::Digest;
+use rules::{Refusal, Sent, sizes, wire};
 use table::layout;
-
-// How a digest stands to a node of the table.
-#[derive(Clone, Copy)]
-pub enum Staleness {
-    // Nothing is to be sent: the node is excluded, or the digest's max is not below its own.
-    UpToDate,
-    // The versions above this one are to be sent; all of them, from a fresh node on, where it is 0.
-    From(u64),
-}
 
 // The stale nodes by their places in the table, the first of the line last; a from stands at its node's place.
 #[derive(Clone, Copy)]
@@ -51,20 +41,20 @@ fn from_of(own_last_gc: u64, last_gc: u64, max: u64) -> u64
 }
 
 // How the digest stands to the node at a place.
-pub fn stale_from(table: &[u8], p: usize, digest: Digest, excluded: &[u64]) -> Staleness
+pub fn stale_from(table: &[u8], p: usize, digest: Digest, excluded: &[u64]) -> Option<u64>
     requires { LaidTable table.now × (p < nodes_of table.now) }
     ensures { result ≡ staleness_of excluded.now (entries_in digest) (decode table.now) p }
 {
     let number = table_read::number_at(table, p);
     if table_read::is_excluded(excluded, number) {
-        return Staleness::UpToDate;
+        return None;
     }
     let told = digest_read::told(digest, number);
     let max = told.max;
     if table_read::max_at(table, p) <= max {
-        return Staleness::UpToDate;
+        return None;
     }
-    Staleness::From(from_of(table_read::last_gc_at(table, p), told.last_gc, max))
+    Some(from_of(table_read::last_gc_at(table, p), told.last_gc, max))
 }
 
 // The line of the stale nodes.
@@ -76,10 +66,8 @@ fn line_up(table: &[u8], digest: Digest, excluded: &[u64], ties: &[u64]) -> Line
     let mut froms = [0u64; sizes::NODES];
     let mut counts = [0u64; sizes::NODES];
     let mut n = 0;
-    let mut i = fields::byte_at(table, layout::NODE_COUNT);
-    while 0 < i {
-        i -= 1;
-        if let Staleness::From(from) = stale_from(table, i, digest, excluded) {
+    for i in (0..fields::byte_at(table, layout::NODE_COUNT)).rev() {
+        if let Some(from) = stale_from(table, i, digest, excluded) {
             froms[i] = from;
             counts[i] = compute_stale::count_stale(table::node_of(table, i), from) as u64;
             compute_order::queue(table, &froms, &counts, ties, &mut line, n, i);
@@ -111,13 +99,6 @@ pub fn write_delta(
     compute_write::write_nodes(table, &froms, &line, lined.count, part)
 }
 
-// Whether a call can go ahead, by its numbers alone.
-#[derive(Clone, Copy)]
-pub enum Asked {
-    Good,
-    Refused(Refusal),
-}
-
 // Whether the MTU is one.
 pub fn mtu_fits(mtu: usize) -> bool
     ensures { result ≡ mtu_fits mtu }
@@ -139,19 +120,19 @@ pub fn is_free(place: usize, mtu: usize, room: usize) -> bool
 }
 
 // 7, 8, 15: the MTU, the place in the datagram, a tie number for each node.
-pub fn ask(mtu: usize, place: usize, room: usize, ties: usize, nodes: usize) -> Asked
+pub fn ask(mtu: usize, place: usize, room: usize, ties: usize, nodes: usize) -> Result<(), Refusal>
     ensures { result ≡ asked_of mtu place room ties nodes }
 {
     if mtu_fits(mtu) {
         if is_free(place, mtu, room) {
             if ties == nodes {
-                return Asked::Good;
+                return Ok(());
             }
-            return Asked::Refused(Refusal::BadTies);
+            return Err(Refusal::BadTies);
         }
-        return Asked::Refused(Refusal::NoPlace);
+        return Err(Refusal::NoPlace);
     }
-    Asked::Refused(Refusal::BadMtu)
+    Err(Refusal::BadMtu)
 }
 
 // The delta for a digest, in an edition that there is, from a table that is known to be good: 7, 8, 15, then the digest's numbers in its edition's order, or
@@ -165,34 +146,23 @@ fn compute_known(
     ties: &[u64],
     datagram: &mut [u8],
     place: usize,
-) -> Computed
+) -> Result<Sent, Refusal>
     requires { valid table.now ≡ true }
     ensures { Gives (compute_for excluded.now ties.now mtu place (read_digest edition digest.now)
         (decode table.now) datagram.old) result datagram.new }
 {
-    let asked = ask(
+    ask(
         mtu,
         place,
         datagram.len(),
         ties.len(),
         fields::byte_at(table, layout::NODE_COUNT),
-    );
-    if let Asked::Refused(why) = asked {
-        return Computed::Refused(why);
-    }
+    )?;
     let d = digest_read::read_digest(edition, digest);
-    let read = d.read;
-    match read {
-        DigestRead::Nodes { count: _, rest: _ } => {
-            let end = place + mtu;
-            let sent = write_delta(table, d, excluded, ties, &mut datagram[place..end]);
-            Computed::Delta {
-                ops: sent.ops,
-                bytes: sent.bytes,
-            }
-        }
-        DigestRead::Refused(why) => Computed::Refused(why),
-    }
+    d.read?;
+    let end = place + mtu;
+    let sent = write_delta(table, d, excluded, ties, &mut datagram[place..end]);
+    Ok(sent)
 }
 
 // The same of any edition's number: 20, then as above.
@@ -205,7 +175,7 @@ pub fn compute_good(
     ties: &[u64],
     datagram: &mut [u8],
     place: usize,
-) -> Computed
+) -> Result<Sent, Refusal>
     requires { valid table.now ≡ true }
     ensures { Gives (compute edition excluded.now ties.now mtu place digest.now
         (decode table.now) datagram.old) result datagram.new }
@@ -213,7 +183,7 @@ pub fn compute_good(
     if wire::is_edition(edition) {
         return compute_known(table, edition, digest, mtu, excluded, ties, datagram, place);
     }
-    Computed::Refused(Refusal::BadEdition)
+    Err(Refusal::BadEdition)
 }
 
 // The delta for a digest, from any lent table: 14, then as above. A refusal leaves the datagram as it was; a delta leaves the bytes before its place
@@ -227,7 +197,7 @@ pub fn compute(
     ties: &[u64],
     datagram: &mut [u8],
     place: usize,
-) -> Computed
+) -> Result<Sent, Refusal>
     ensures { Tells computed_told (lent_compute edition excluded.now ties.now mtu place digest.now
         datagram.old table.now) result datagram.new }
 {
@@ -243,5 +213,5 @@ pub fn compute(
             place,
         );
     }
-    Computed::Refused(Refusal::BadTable)
+    Err(Refusal::BadTable)
 }

@@ -11,9 +11,9 @@ ghost use Rattle.digest_read.specs.Held.{entries_in};
 ghost use Rattle.plan.specs.Faults.{judge_for, judge_plan, judged_told, lent_judge};
 ghost use Rattle.plan.specs.Plan.{compute_plan, lent_compute_plan, on_plan, plan_for};
 
-use digest_read::{Digest, DigestRead};
-use plan::Judged;
-use rules::{Computed, Refusal, wire};
+use digest_read::Digest;
+use plan::NotSent;
+use rules::{Refusal, Sent, wire};
 use table::layout;
 
 // The delta of a plan for a digest that was read, into a datagram with a whole MTU free: 23, or the delta.
@@ -26,31 +26,25 @@ fn write_plan(
     counts: &[u64],
     datagram: &mut [u8],
     place: usize,
-) -> Computed
+) -> Result<Sent, Refusal>
     requires { (valid table.now ≡ true) × (place + mtu ≤ length datagram.old) }
     ensures { Gives (on_plan excluded.now nodes.now counts.now mtu place (entries_in digest)
         (decode table.now) datagram.old) result datagram.new }
 {
     let judged = plan_lines::judge_lines(table, digest, mtu, excluded, nodes, counts);
-    match judged {
-        Judged::Accepted => {
-            let end = place + mtu;
-            let sent = plan_lines::write_lines(
-                table,
-                digest,
-                excluded,
-                nodes,
-                counts,
-                &mut datagram[place..end],
-            );
-            Computed::Delta {
-                ops: sent.ops,
-                bytes: sent.bytes,
-            }
-        }
-        Judged::AtFault { line: _, why: _ } => Computed::Refused(Refusal::BadPlan),
-        Judged::Refused(_) => Computed::Refused(Refusal::BadPlan),
+    if judged.is_err() {
+        return Err(Refusal::BadPlan);
     }
+    let end = place + mtu;
+    let sent = plan_lines::write_lines(
+        table,
+        digest,
+        excluded,
+        nodes,
+        counts,
+        &mut datagram[place..end],
+    );
+    Ok(sent)
 }
 
 // The same for a digest in an edition that there is: 7, 8, then the digest's numbers in its edition's order, 23, or the delta.
@@ -64,25 +58,20 @@ fn compute_known(
     counts: &[u64],
     datagram: &mut [u8],
     place: usize,
-) -> Computed
+) -> Result<Sent, Refusal>
     requires { valid table.now ≡ true }
     ensures { Gives (plan_for excluded.now nodes.now counts.now mtu place (read_digest edition digest.now)
         (decode table.now) datagram.old) result datagram.new }
 {
-    if compute::mtu_fits(mtu) {
-        if compute::is_free(place, mtu, datagram.len()) {
-            let d = digest_read::read_digest(edition, digest);
-            let read = d.read;
-            return match read {
-                DigestRead::Nodes { count: _, rest: _ } => {
-                    write_plan(table, d, mtu, excluded, nodes, counts, datagram, place)
-                }
-                DigestRead::Refused(why) => Computed::Refused(why),
-            };
-        }
-        return Computed::Refused(Refusal::NoPlace);
+    if !compute::mtu_fits(mtu) {
+        return Err(Refusal::BadMtu);
     }
-    Computed::Refused(Refusal::BadMtu)
+    if !compute::is_free(place, mtu, datagram.len()) {
+        return Err(Refusal::NoPlace);
+    }
+    let d = digest_read::read_digest(edition, digest);
+    d.read?;
+    write_plan(table, d, mtu, excluded, nodes, counts, datagram, place)
 }
 
 // The delta of a plan, from a table that is known to be good: 20, then as above.
@@ -96,17 +85,17 @@ pub fn compute_plan_good(
     counts: &[u64],
     datagram: &mut [u8],
     place: usize,
-) -> Computed
+) -> Result<Sent, Refusal>
     requires { valid table.now ≡ true }
     ensures { Gives (compute_plan edition excluded.now nodes.now counts.now mtu place digest.now
         (decode table.now) datagram.old) result datagram.new }
 {
-    if wire::is_edition(edition) {
-        return compute_known(
-            table, edition, digest, mtu, excluded, nodes, counts, datagram, place,
-        );
+    if !wire::is_edition(edition) {
+        return Err(Refusal::BadEdition);
     }
-    Computed::Refused(Refusal::BadEdition)
+    compute_known(
+        table, edition, digest, mtu, excluded, nodes, counts, datagram, place,
+    )
 }
 
 // The delta of a plan, from any lent table: 14, then as above. A refusal leaves the datagram as it was; a delta leaves the bytes before its place and those
@@ -121,24 +110,24 @@ pub fn compute_plan(
     counts: &[u64],
     datagram: &mut [u8],
     place: usize,
-) -> Computed
+) -> Result<Sent, Refusal>
     ensures { Tells computed_told (lent_compute_plan edition excluded.now nodes.now counts.now mtu place
         digest.now datagram.old table.now) result datagram.new }
 {
-    if table_check::check_table(table) {
-        return compute_plan_good(
-            &table[..layout::AREA],
-            edition,
-            digest,
-            mtu,
-            excluded,
-            nodes,
-            counts,
-            datagram,
-            place,
-        );
+    if !table_check::check_table(table) {
+        return Err(Refusal::BadTable);
     }
-    Computed::Refused(Refusal::BadTable)
+    compute_plan_good(
+        &table[..layout::AREA],
+        edition,
+        digest,
+        mtu,
+        excluded,
+        nodes,
+        counts,
+        datagram,
+        place,
+    )
 }
 
 // What is said of a plan for a digest in an edition that there is: 7, the digest's numbers, or the first line at fault.
@@ -150,22 +139,19 @@ fn judge_known(
     excluded: &[u64],
     nodes: &[u64],
     counts: &[u64],
-) -> Judged
+) -> Result<(), NotSent>
     requires { valid table.now ≡ true }
     ensures { result ≡ judge_for excluded.now nodes.now counts.now mtu (read_digest edition digest.now)
         (decode table.now) }
 {
-    if compute::mtu_fits(mtu) {
-        let d = digest_read::read_digest(edition, digest);
-        let read = d.read;
-        return match read {
-            DigestRead::Nodes { count: _, rest: _ } => {
-                plan_lines::judge_lines(table, d, mtu, excluded, nodes, counts)
-            }
-            DigestRead::Refused(why) => Judged::Refused(why),
-        };
+    if !compute::mtu_fits(mtu) {
+        return Err(NotSent::Refused(Refusal::BadMtu));
     }
-    Judged::Refused(Refusal::BadMtu)
+    let d = digest_read::read_digest(edition, digest);
+    if let Err(why) = d.read {
+        return Err(NotSent::Refused(why));
+    }
+    plan_lines::judge_lines(table, d, mtu, excluded, nodes, counts)
 }
 
 // What is said of a plan, for a table that is known to be good: 20, then as above.
@@ -177,15 +163,15 @@ pub fn plan_fault_good(
     excluded: &[u64],
     nodes: &[u64],
     counts: &[u64],
-) -> Judged
+) -> Result<(), NotSent>
     requires { valid table.now ≡ true }
     ensures { result ≡ judge_plan edition excluded.now nodes.now counts.now mtu digest.now
         (decode table.now) }
 {
-    if wire::is_edition(edition) {
-        return judge_known(table, edition, digest, mtu, excluded, nodes, counts);
+    if !wire::is_edition(edition) {
+        return Err(NotSent::Refused(Refusal::BadEdition));
     }
-    Judged::Refused(Refusal::BadEdition)
+    judge_known(table, edition, digest, mtu, excluded, nodes, counts)
 }
 
 // What is said of a plan, for any lent table: 14, then as above. It is accepted exactly where `compute_plan` writes its delta into a datagram with a whole MTU
@@ -198,20 +184,20 @@ pub fn plan_fault(
     excluded: &[u64],
     nodes: &[u64],
     counts: &[u64],
-) -> Judged
+) -> Result<(), NotSent>
     ensures { Says judged_told (lent_judge edition excluded.now nodes.now counts.now mtu digest.now
         table.now) result }
 {
-    if table_check::check_table(table) {
-        return plan_fault_good(
-            &table[..layout::AREA],
-            edition,
-            digest,
-            mtu,
-            excluded,
-            nodes,
-            counts,
-        );
+    if !table_check::check_table(table) {
+        return Err(NotSent::Refused(Refusal::BadTable));
     }
-    Judged::Refused(Refusal::BadTable)
+    plan_fault_good(
+        &table[..layout::AREA],
+        edition,
+        digest,
+        mtu,
+        excluded,
+        nodes,
+        counts,
+    )
 }

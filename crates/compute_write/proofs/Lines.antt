@@ -23,7 +23,7 @@ use Rattle.compute_stale.specs.declared.Places.{Places}
 use Rattle.compute_stale.proofs.Arranged.{listed-first, length-span}
 use Rattle.compute_stale.proofs.Above.{length-versions, carried-above, above_in, places-few, places-long, places-listed}
 use Rattle.compute_write.specs.Sending.{node_op_at, record_at, body_at, ops_at, closed}
-use Rattle.compute_write.specs.declared.Sent.{Sent}
+use Rattle.rules.specs.declared.Sent.{Sent}
 use Rattle.compute_write.proofs.Steps.{Writing, writing, Reached, left_is, max-written, lent, back}
 
 -- ---- nodes

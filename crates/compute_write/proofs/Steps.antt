@@ -23,10 +23,9 @@ use Rattle.rules.specs.Delta.{Op, NodeOp, KeyValueOp, SetMaxVersionOp, op_bytes,
 use Rattle.rules.specs.Compute.{key_value_ops, body_ops, cut}
 use Rattle.rules.proofs.Accepted.{cut-bytes}
 use Rattle.delta_write.specs.Written.{write_op}
-use Rattle.delta_write.specs.declared.Wrote.{Wrote}
-use Rattle.delta_write.specs.declared.Wrote.TheVariants as wrote
+use Rattle.std.specs.Prelude.{None, Option, Some}
 use Rattle.compute_write.specs.Sending.{counts, behind, sending, closed}
-use Rattle.compute_write.specs.declared.Sent.{Sent}
+use Rattle.rules.specs.declared.Sent.{Sent}
 
 -- what an equation of two outcomes says
 pub gives : {A M : Type 0} (a : A) (m : M) (of : Given A M) → given a m ≡ of → Gives of a m
@@ -49,14 +48,14 @@ record Took (o : Op) (m : Bytes) (n : ℕ) (after : Bytes) : Type 0 where
   fits : size_of o ≤ length m
   front : after ≡ put 0 (op_bytes o) m
 
-took : (o : Op) (m : Bytes) (answer : Wrote) (after : Bytes) (n : ℕ) → Gives (write_op o m) answer after → answer ≡ wrote.Bytes n → Took o m n after
+took : (o : Op) (m : Bytes) (answer : (Option ℕ)) (after : Bytes) (n : ℕ) → Gives (write_op o m) answer after → answer ≡ Some n → Took o m n after
 unfolding write_op
 took o m answer after n w e = go (leb (size_of o) (length m)) refl (sym e ∙ w.0) w.1
   where
-    does : Bool → Given Wrote Bytes
-    does t = pick t (given (wrote.Bytes (size_of o)) (put 0 (op_bytes o) m)) (given wrote.NoFit m)
+    does : Bool → Given (Option ℕ) Bytes
+    does t = pick t (given (Some (size_of o)) (put 0 (op_bytes o) m)) (given None m)
 
-    go : (t : Bool) → leb (size_of o) (length m) ≡ t → wrote.Bytes n ≡ (does t).answer → after ≡ (does t).lent → Took o m n after
+    go : (t : Bool) → leb (size_of o) (length m) ≡ t → Some n ≡ (does t).answer → after ≡ (does t).lent → Took o m n after
     go true q a b = record { size = cc; fits = leb-true (size_of o) (length m) q; front = b }
     go false q a b = let z : ◌≡◌ {A = ℕ} 0 1 = cc in absurd (omega arith)
 
@@ -65,14 +64,14 @@ record Left (o : Op) (m after : Bytes) : Type 0 where
   over : length m < size_of o
   same : after ≡ m
 
-left : (o : Op) (m : Bytes) (answer : Wrote) (after : Bytes) → Gives (write_op o m) answer after → answer ≡ wrote.NoFit → Left o m after
+left : (o : Op) (m : Bytes) (answer : (Option ℕ)) (after : Bytes) → Gives (write_op o m) answer after → answer ≡ None → Left o m after
 unfolding write_op
 left o m answer after w e = go (leb (size_of o) (length m)) refl (sym e ∙ w.0) w.1
   where
-    does : Bool → Given Wrote Bytes
-    does t = pick t (given (wrote.Bytes (size_of o)) (put 0 (op_bytes o) m)) (given wrote.NoFit m)
+    does : Bool → Given (Option ℕ) Bytes
+    does t = pick t (given (Some (size_of o)) (put 0 (op_bytes o) m)) (given None m)
 
-    go : (t : Bool) → leb (size_of o) (length m) ≡ t → wrote.NoFit ≡ (does t).answer → after ≡ (does t).lent → Left o m after
+    go : (t : Bool) → leb (size_of o) (length m) ≡ t → None ≡ (does t).answer → after ≡ (does t).lent → Left o m after
     go true q a b = let z : ◌≡◌ {A = ℕ} 0 1 = cc in absurd (omega arith)
     go false q a b = record { over = leb-false (size_of o) (length m) q; same = b }
 
@@ -158,7 +157,7 @@ back-put used vs l after h e =
     ∙ ap (λ (m : ℕ). put m vs l) (add-zero used)
 
 -- an operation did not fit: the datagram is as it was
-not_written : (used : ℕ) (o : Op) (l : Bytes) (answer : Wrote) (after : Bytes) → Gives (write_op o (lent used l)) answer after → answer ≡ wrote.NoFit
+not_written : (used : ℕ) (o : Op) (l : Bytes) (answer : (Option ℕ)) (after : Bytes) → Gives (write_op o (lent used l)) answer after → answer ≡ None
     → (length l - used < size_of o) × (back used l after ≡ l)
 not_written used o l answer after p e =
     let k = left o (lent used l) answer after p e in
@@ -223,30 +222,30 @@ module _ {a : Writing} {ops used : ℕ} {l : Bytes} where
           same = (λ i. sending (ops + 1) (used + size i) rest (is i)) ∙ sym (one_more ops used o rest l h fits) ∙ w.same;
         }
 
-    module _ {o : Op} {answer : Wrote} (p : Gives (write_op o (lent used l)) answer after) where
+    module _ {o : Op} {answer : (Option ℕ)} (p : Gives (write_op o (lent used l)) answer after) where
       -- an operation was written
-      pub op-written : {n : ℕ} → answer ≡ wrote.Bytes n → Reached a (writing ops used (o ∷ rest) l)
+      pub op-written : {n : ℕ} → answer ≡ Some n → Reached a (writing ops used (o ∷ rest) l)
           → Reached a (writing (ops + 1) (used + n) rest (back used l after))
       op-written {n} e w = by-took o n (took o (lent used l) answer after n p e) w
 
       -- one did not fit
-      pub unfit-long : answer ≡ wrote.NoFit → Reached a (writing ops used (o ∷ rest) l) → length (back used l after) ≡ length a.datagram
+      pub unfit-long : answer ≡ None → Reached a (writing ops used (o ∷ rest) l) → length (back used l after) ≡ length a.datagram
       unfit-long e w = ap length (not_written used o l answer after p e).1 ∙ w.long
 
       -- it ends the delta
-      unfit-ends : answer ≡ wrote.NoFit → (length l - used < size_of o → sending ops used (o ∷ rest) l ≡ given (counts ops used) l)
+      unfit-ends : answer ≡ None → (length l - used < size_of o → sending ops used (o ∷ rest) l ≡ given (counts ops used) l)
           → Reached a (writing ops used (o ∷ rest) l) → Gives (outcome a) (counts ops used) (back used l after)
       unfit-ends e ends w =
           let u = not_written used o l answer after p e in
           gives (counts ops used) _ (outcome a) (ap (given (counts ops used)) u.1 ∙ sym (ends u.0) ∙ w.same)
 
     -- a Node that does not fit ends the delta
-    pub node-unfit : {n g f : ℕ} {answer : Wrote} → Gives (write_op (NodeOp n g f) (lent used l)) answer after → answer ≡ wrote.NoFit
+    pub node-unfit : {n g f : ℕ} {answer : (Option ℕ)} → Gives (write_op (NodeOp n g f) (lent used l)) answer after → answer ≡ None
         → Reached a (writing ops used (NodeOp n g f ∷ rest) l) → Gives (outcome a) (counts ops used) (back used l after)
     node-unfit {n} {g} {f} p e w = unfit-ends p e (node-ends ops used rest l n g f) w
 
     -- so does a record
-    pub record-unfit : {r : KeyValue} {answer : Wrote} → Gives (write_op (KeyValueOp r) (lent used l)) answer after → answer ≡ wrote.NoFit
+    pub record-unfit : {r : KeyValue} {answer : (Option ℕ)} → Gives (write_op (KeyValueOp r) (lent used l)) answer after → answer ≡ None
         → Reached a (writing ops used (KeyValueOp r ∷ rest) l) → Gives (outcome a) (counts ops used) (back used l after)
     record-unfit {r} p e w = unfit-ends p e (record-ends ops used rest l r) w
 
@@ -303,7 +302,7 @@ pub not-due : (n m : ℕ) (l : Bytes) → (n ≡ 0 → ⊥) → Gives (closed n 
 not-due zero m l h = absurd (h refl)
 not-due (suc n) m l h = (refl, refl)
 
-module _ (n m : ℕ) (l : Bytes) (answer : Wrote) (after : Bytes) (z : n ≡ 0) (w : Gives (write_op (SetMaxVersionOp m) l) answer after) where
+module _ (n m : ℕ) (l : Bytes) (answer : (Option ℕ)) (after : Bytes) (z : n ≡ 0) (w : Gives (write_op (SetMaxVersionOp m) l) answer after) where
   abbrev o : Op
   o = SetMaxVersionOp m
 
@@ -312,12 +311,12 @@ module _ (n m : ℕ) (l : Bytes) (answer : Wrote) (after : Bytes) (z : n ≡ 0) 
       ap (λ (b : Bool). pick b (given (counts 1 (size_of o)) (put 0 (op_bytes o) l)) (given (counts 0 0) l)) (sym e)
       ∙ ap (λ (j : ℕ). closed j m l) (sym z)
 
-  pub max-sent : (k : ℕ) → answer ≡ wrote.Bytes k → Gives (closed n m l) (counts 1 k) after
+  pub max-sent : (k : ℕ) → answer ≡ Some k → Gives (closed n m l) (counts 1 k) after
   max-sent k e =
       let s = took o l answer after k w e in
       gives (counts 1 k) after (closed n m l) ((λ i. given (counts 1 (s.size i)) (s.front i)) ∙ due true (le-leb (size_of o) (length l) s.fits))
 
-  pub max-left : answer ≡ wrote.NoFit → Gives (closed n m l) (counts 0 0) after
+  pub max-left : answer ≡ None → Gives (closed n m l) (counts 0 0) after
   max-left e =
       let s = left o l answer after w e in
       gives (counts 0 0) after (closed n m l) (ap (given (counts 0 0)) s.same ∙ due false (lt-leb (size_of o) (length l) s.over))

@@ -11,7 +11,7 @@ use Rattle.rules.specs.Delta.{Op, NodeOp, SetMaxVersionOp, op_bytes, size_of, de
 use Rattle.rules.specs.Compute.{stale, body_ops, cut}
 use Rattle.rules.specs.Layout.{decode_rec}
 use Rattle.table_read.specs.Find.{entry_at}
-use Rattle.compute_write.specs.declared.Sent.{Sent}
+use Rattle.rules.specs.declared.Sent.{Sent}
 
 -- ---- the operations of the nodes at some places, whose froms stand in a list by place
 

@@ -14,17 +14,10 @@ ghost use Rattle.delta_write.specs.Written.{write_op};
 ghost use Rattle.compute_stale.specs.Arranged.{listed, AllBelow};
 ghost use Rattle.compute_write.specs.Sending.{node_op_at, record_at, ops_at, sending, closed};
 
-use delta_write::Wrote;
-
-// How many operations were written, in how many bytes.
-#[derive(Clone, Copy)]
-pub struct Sent {
-    pub ops: usize,
-    pub bytes: usize,
-}
+use rules::Sent;
 
 // The Node operation of the node at `p`.
-pub fn write_node(table: &[u8], p: usize, from: u64, datagram: &mut [u8]) -> Wrote
+pub fn write_node(table: &[u8], p: usize, from: u64, datagram: &mut [u8]) -> Option<usize>
     requires { LaidTable table.now × (p < nodes_of table.now) }
     ensures { Gives (write_op (node_op_at (decode table.now) p from) datagram.old) result datagram.new }
 {
@@ -37,7 +30,7 @@ pub fn write_node(table: &[u8], p: usize, from: u64, datagram: &mut [u8]) -> Wro
 }
 
 // Record `q` of the node at `p`.
-pub fn write_record(table: &[u8], p: usize, q: usize, datagram: &mut [u8]) -> Wrote
+pub fn write_record(table: &[u8], p: usize, q: usize, datagram: &mut [u8]) -> Option<usize>
     requires { LaidTable table.now × (p < nodes_of table.now) × (q < length (entry_at (decode table.now) p).node.recs) }
     ensures { Gives (write_op (KeyValueOp (record_at (decode table.now) p q)) datagram.old) result datagram.new }
 {
@@ -62,8 +55,8 @@ pub fn write_max(table: &[u8], p: usize, stale: usize, datagram: &mut [u8]) -> S
         return Sent { ops: 0, bytes: 0 };
     }
     match delta_write::write_set_max_version(datagram, table_read::max_at(table, p)) {
-        Wrote::Bytes(bytes) => Sent { ops: 1, bytes },
-        Wrote::NoFit => Sent { ops: 0, bytes: 0 },
+        Some(bytes) => Sent { ops: 1, bytes },
+        None => Sent { ops: 0, bytes: 0 },
     }
 }
 
@@ -83,26 +76,22 @@ pub fn write_nodes(
 {
     let mut ops = 0;
     let mut used = 0;
-    let mut j = n;
-    'nodes: while 0 < j {
-        j -= 1;
+    'nodes: for j in (0..n).rev() {
         let p = line[j];
         let from = froms[p];
-        let Wrote::Bytes(size) = write_node(table, p, from, &mut datagram[used..]) else {
+        let Some(size) = write_node(table, p, from, &mut datagram[used..]) else {
             break 'nodes;
         };
         ops += 1;
         used += size;
         let stale = compute_stale::stale_places(table::node_of(table, p), from);
         let at = stale.at;
-        let mut k = stale.count;
-        let sent = write_max(table, p, k, &mut datagram[used..]);
+        let sent = write_max(table, p, stale.count, &mut datagram[used..]);
         ops += sent.ops;
         used += sent.bytes;
-        while 0 < k {
-            k -= 1;
+        for k in (0..stale.count).rev() {
             let q = at[k];
-            let Wrote::Bytes(size) = write_record(table, p, q, &mut datagram[used..]) else {
+            let Some(size) = write_record(table, p, q, &mut datagram[used..]) else {
                 break 'nodes;
             };
             ops += 1;

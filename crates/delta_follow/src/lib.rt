@@ -10,71 +10,72 @@ ghost use Rattle.delta_follow.specs.Following.{follow_at, max_follows, node_foll
 use delta_op::Op;
 use rules::{Refusal, sizes};
 
-// Whether an operation may follow those before it: a further node, or the running max under the last one, or a refusal.
+// What an operation leaves that may stand where it does: a Node is entered, or the running max is this one from here on.
 #[derive(Clone, Copy)]
 pub enum Followed {
     Entered(u64),
     Under(u64),
-    Fault(Refusal),
 }
 
-// Whether the number is one of the first `nodes`, looked through from the newest back.
+// Whether the number is one of the first `nodes`.
 fn is_seen(seen: &[u64; sizes::NODES], nodes: usize, number: u64) -> bool
     requires { nodes ≤ max_nodes }
     ensures { result ≡ among number (seen_of nodes seen.now) }
 {
-    let mut i = nodes;
-    while 0 < i {
-        i -= 1;
-        if number == seen[i] {
-            return true;
-        }
-    }
-    false
+    seen[..nodes].contains(&number)
 }
 
 // A Node: not repeated, and not the ninth.
-fn follow_node(seen: &[u64; sizes::NODES], nodes: usize, number: u64) -> Followed
+#[tactic(auto, unfolding(crate::specs::Following::node_follows))]
+fn follow_node(seen: &[u64; sizes::NODES], nodes: usize, number: u64) -> Result<Followed, Refusal>
     requires { nodes ≤ max_nodes }
     ensures { result ≡ node_follows nodes seen.now number }
 {
     if is_seen(seen, nodes, number) {
-        return Followed::Fault(Refusal::NodeTwice);
+        return Err(Refusal::NodeTwice);
     }
     if nodes < sizes::NODES {
-        return Followed::Entered(number);
+        return Ok(Followed::Entered(number));
     }
-    Followed::Fault(Refusal::TooMany)
+    Err(Refusal::TooMany)
 }
 
 // A record: under a Node, with a version above the running max.
-fn follow_record(nodes: usize, running: u64, version: u64) -> Followed
+#[tactic(auto, unfolding(crate::specs::Following::record_follows))]
+fn follow_record(nodes: usize, running: u64, version: u64) -> Result<Followed, Refusal>
     ensures { result ≡ record_follows nodes running version }
 {
     if nodes == 0 {
-        return Followed::Fault(Refusal::OutOfOrder);
+        return Err(Refusal::OutOfOrder);
     }
     if running < version {
-        return Followed::Under(version);
+        return Ok(Followed::Under(version));
     }
-    Followed::Fault(Refusal::OutOfOrder)
+    Err(Refusal::OutOfOrder)
 }
 
 // A SetMaxVersion: under a Node, and not below the running max.
-fn follow_max(nodes: usize, running: u64, max: u64) -> Followed
+#[tactic(auto, unfolding(crate::specs::Following::max_follows))]
+fn follow_max(nodes: usize, running: u64, max: u64) -> Result<Followed, Refusal>
     ensures { result ≡ max_follows nodes running max }
 {
     if nodes == 0 {
-        return Followed::Fault(Refusal::OutOfOrder);
+        return Err(Refusal::OutOfOrder);
     }
     if running <= max {
-        return Followed::Under(max);
+        return Ok(Followed::Under(max));
     }
-    Followed::Fault(Refusal::OutOfOrder)
+    Err(Refusal::OutOfOrder)
 }
 
 // Whether the operation may follow, where `nodes` nodes are seen and the running max is `running`.
-pub fn follow(seen: &[u64; sizes::NODES], nodes: usize, running: u64, op: Op) -> Followed
+#[tactic(auto, unfolding(crate::specs::Following::follow_at))]
+pub fn follow(
+    seen: &[u64; sizes::NODES],
+    nodes: usize,
+    running: u64,
+    op: Op,
+) -> Result<Followed, Refusal>
     requires { nodes ≤ max_nodes }
     ensures { result ≡ follow_at nodes seen.now running op }
 {

@@ -12,7 +12,7 @@ use Rattle.fields.proofs.Choice.{pick_true, pick-false}
 use Rattle.rules.specs.Sizes.{max_delta}
 use Rattle.rules.specs.Delta.{Op, OpRead, Got, Bad, Reading, nothing_read, Followed, Next, Fault, follow, Ops, Good, Faulty, and_then, on_followed, on_read, read_answer, read_op, read_ops, read_delta, delta_read}
 use Rattle.rules.specs.Profile.{and_form, odd_number, op_in_form, on_read_as, read_delta_as, read_ops_as}
-use Rattle.rules.specs.declared.DeltaRead.TheVariants as read
+use Rattle.std.specs.Prelude.{Err, Ok}
 use Rattle.rules.specs.declared.Profile.{Profile}
 use Rattle.rules.specs.declared.Profile.TheVariants.{Free}
 use Rattle.rules.specs.declared.Refusal.{Refusal}
@@ -147,7 +147,7 @@ end_is n (Faulty r f) = refl
 answer-odd : (p : Profile) (k end : ℕ) (x : Ops) → read_answer (odd p k end x) ≡ unless_odd p k end (read_answer x)
 answer-odd p k end x = go (ltb k end)
   where
-    go : (b : Bool) → read_answer (pick b (Faulty (odd_number p) k) x) ≡ pick b (read.Refused (odd_number p) k) (read_answer x)
+    go : (b : Bool) → read_answer (pick b (Faulty (odd_number p) k) x) ≡ pick b (Err (record { why = (odd_number p); at = k })) (read_answer x)
     go true = refl
     go false = refl
 
@@ -169,7 +169,7 @@ formed-read p l = go (leb (length l) max_delta)
         ap read_answer (as-odd p (length l) (length l) 0 nothing_read l (omega arith) (omega arith))
         ∙ answer-odd p (odd_from p (length l) 0 (end_at (length l) (read_ops (length l) 0 nothing_read l)) l) (end_at (length l) (read_ops (length l) 0 nothing_read l)) (read_ops (length l) 0 nothing_read l)
         ∙ ap (λ (e : ℕ). unless_odd p (odd_from p (length l) 0 e l) e (read_answer (read_ops (length l) 0 nothing_read l))) (sym (end_is (length l) (read_ops (length l) 0 nothing_read l)))
-    go false = sym (ap (λ (k : ℕ). pick (ltb k 0) (read.Refused (odd_number p) k) (read.Refused TooMany 0)) (none_before p (length l) l))
+    go false = sym (ap (λ (k : ℕ). pick (ltb k 0) (Err (record { why = (odd_number p); at = k })) (Err (record { why = TooMany; at = 0 }))) (none_before p (length l) l))
 
 -- it ends within the bytes
 pub end-within : (l : List ℕ) → end_of (length l) (delta_read l) ≤ length l
@@ -192,10 +192,10 @@ unfolding delta_read_as delta_read
 free-read l = ap read_answer (free-reads l)
 
 -- what is accepted in a profile is accepted by document 01, with the same counts
-pub as-good : (p : Profile) (l : List ℕ) (ops nodes : ℕ) → delta_read_as p l ≡ read.Good ops nodes → delta_read l ≡ read.Good ops nodes
+pub as-good : (p : Profile) (l : List ℕ) (ops nodes : ℕ) → delta_read_as p l ≡ (Ok (record { ops = ops; nodes = nodes })) → delta_read l ≡ (Ok (record { ops = ops; nodes = nodes }))
 unfolding delta_read_as delta_read
 as-good p l ops nodes e = go (read_delta_as p l) refl e
   where
-    go : (x : Ops) → read_delta_as p l ≡ x → read_answer x ≡ read.Good ops nodes → read_answer (read_delta l) ≡ read.Good ops nodes
+    go : (x : Ops) → read_delta_as p l ≡ x → read_answer x ≡ (Ok (record { ops = ops; nodes = nodes })) → read_answer (read_delta l) ≡ (Ok (record { ops = ops; nodes = nodes }))
     go (Good os) q e = ap read_answer (delta-plain p l os q).0 ∙ e
     go (Faulty r f) q e = let z : ◌≡◌ {A = ℕ} 0 1 = cc in absurd (omega arith)

@@ -19,8 +19,7 @@ use Rattle.rules.specs.declared.Status.{Status}
 use Rattle.delta_op.specs.Places.{Inside, meant, op_at, op_of}
 use Rattle.delta_op.specs.declared.Op.{Op}
 use Rattle.delta_op.specs.declared.Op.TheVariants as op
-use Rattle.delta_op.specs.declared.OpRead.{OpRead}
-use Rattle.delta_op.specs.declared.OpRead.TheVariants.{Got, Bad}
+use Rattle.std.specs.Prelude.{Err, Ok, Result}
 use Rattle.delta_op.proofs.Reading.{ends, read_at}
 use Rattle.delta_form.specs.Forming.{formed_at, odd_from, odd_place, on_odd}
 
@@ -73,19 +72,19 @@ module _ (p : Profile) (l : List ℕ) (end at : ℕ) (s : So-far p l end at) whe
         ∙ sym (pick_true (ltb at end) (on_odd p at end (λ rest. odd_from p n (at + (length (drop at l) - length rest)) end rest) (rule.read_op (drop at l))) end (lt-ltb at end h))
         ∙ e
 
-    pub bad : (r : Refusal) → op_at l at ≡ Bad r → end ≡ odd_place p l end
+    pub bad : (r : Refusal) → op_at l at ≡ Err r → end ≡ odd_place p l end
     bad r e = go s.1.0 s.1.1 s.1.2
       where
         go : (k : ℕ) → length l ≤ k + at → odd_from p k at end (drop at l) ≡ odd_place p l end → end ≡ odd_place p l end
         go zero g q = absurd (omega arith)
-        go (suc n) g q = sym (ap (λ (x : OpRead). on_odd p at end (λ rest. odd_from p n (at + (length (drop at l) - length rest)) end rest) (meant l x)) e) ∙ next-op n g q
+        go (suc n) g q = sym (ap (λ (x : (Result (Op × ℕ) Refusal)). on_odd p at end (λ rest. odd_from p n (at + (length (drop at l) - length rest)) end rest) (meant l x)) e) ∙ next-op n g q
 
-    module _ (o : Op) (next : ℕ) (e : op_at l at ≡ Got o next) {t : Bool} (is : t ≡ op_in_form p (op_of l o)) where
+    module _ (o : Op) (next : ℕ) (e : op_at l at ≡ (Ok (o, next))) {t : Bool} (is : t ≡ op_in_form p (op_of l o)) where
       got : (n : ℕ) → length l ≤ suc n + at → odd_from p (suc n) at end (drop at l) ≡ odd_place p l end
           → pick t (odd_from p n (at + (length (drop at l) - length (drop next l))) end (drop next l)) at ≡ odd_place p l end
       got n g q =
           ap (λ (x : Bool). pick x (odd_from p n (at + (length (drop at l) - length (drop next l))) end (drop next l)) at) is
-          ∙ sym (ap (λ (x : OpRead). on_odd p at end (λ rest. odd_from p n (at + (length (drop at l) - length rest)) end rest) (meant l x)) e)
+          ∙ sym (ap (λ (x : (Result (Op × ℕ) Refusal)). on_odd p at end (λ rest. odd_from p n (at + (length (drop at l) - length rest)) end rest) (meant l x)) e)
           ∙ next-op n g q
 
       pub is_odd : t ≡ false → at ≡ odd_place p l end

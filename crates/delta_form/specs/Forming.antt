@@ -5,13 +5,14 @@ use Rattle.fields.specs.Choice.{pick}
 use Rattle.fields.specs.Numbers.{Bytes}
 use Rattle.rules.specs.Delta.{OpRead, Got, Bad, read_answer, read_op}
 use Rattle.rules.specs.Profile.{in_form, odd_number, op_in_form, read_delta_as}
+use Rattle.std.specs.Prelude.{Err, Ok, Result}
+use Rattle.rules.specs.declared.DeltaFault.{DeltaFault}
 use Rattle.rules.specs.declared.DeltaRead.{DeltaRead}
-use Rattle.rules.specs.declared.DeltaRead.TheVariants as read
 use Rattle.rules.specs.declared.Profile.{Profile}
 use Rattle.rules.specs.declared.Status.{Status}
 
 -- what a table of this profile answers to a delta
-unfoldable pub delta_read_as : (profile : Profile) (bytes : Bytes) → DeltaRead
+unfoldable pub delta_read_as : (profile : Profile) (bytes : Bytes) → (Result DeltaRead DeltaFault)
 delta_read_as p l = read_answer (read_delta_as p l)
 
 -- whether a record of this key, value and status is in form
@@ -31,10 +32,10 @@ abbrev pub odd_place : (profile : Profile) (delta : Bytes) (end : ℕ) → ℕ
 odd_place p l end = odd_from p (length l) 0 end l
 
 -- where document 01's reading ends: at the fault, or behind the last operation
-abbrev pub end_of : (long : ℕ) (read : DeltaRead) → ℕ
-end_of n (read.Good ops nodes) = n
-end_of n (read.Refused r at) = at
+abbrev pub end_of : (long : ℕ) (read : (Result DeltaRead DeltaFault)) → ℕ
+end_of n (Ok d) = n
+end_of n (Err f) = f.at
 
 -- 17 or 19 for a record out of form before it
-abbrev pub unless_odd : (profile : Profile) (odd end : ℕ) (read : DeltaRead) → DeltaRead
-unless_odd p odd end r = pick (ltb odd end) (read.Refused (odd_number p) odd) r
+abbrev pub unless_odd : (profile : Profile) (odd end : ℕ) (read : (Result DeltaRead DeltaFault)) → (Result DeltaRead DeltaFault)
+unless_odd p odd end r = pick (ltb odd end) (Err (record { why = (odd_number p); at = odd })) r

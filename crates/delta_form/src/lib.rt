@@ -10,8 +10,8 @@ ghost use Rattle.rules.specs.Profile.{odd_number, op_in_form};
 ghost use Rattle.delta_op.specs.Places.{Inside, op_of};
 ghost use Rattle.delta_form.specs.Forming.{delta_read_as, end_of, formed_at, odd_place};
 
-use delta_op::{Op, OpRead};
-use rules::{DeltaRead, Profile, Refusal, Status};
+use delta_op::Op;
+use rules::{DeltaFault, DeltaRead, Profile, Refusal, Status};
 
 // Whether the record whose key and value stand at these places is in form.
 fn record_formed(
@@ -68,9 +68,10 @@ fn first_odd(profile: Profile, delta: &[u8], end: usize) -> usize
     ensures { result ≡ odd_place profile delta.now end }
 {
     let mut at = 0;
+    // No `for`: where the next operation stands, the one before it tells.
     while at < end {
         let read = delta_op::read_op(delta, at);
-        let OpRead::Got { op, next } = read else {
+        let Ok((op, next)) = read else {
             return end;
         };
         if op_formed(profile, delta, op) {
@@ -83,12 +84,12 @@ fn first_odd(profile: Profile, delta: &[u8], end: usize) -> usize
 }
 
 // Where the operations end that were read before a fault.
-fn end_of(long: usize, read: DeltaRead) -> usize
+fn end_of(long: usize, read: Result<DeltaRead, DeltaFault>) -> usize
     ensures { result ≡ end_of long read }
 {
     match read {
-        DeltaRead::Good { ops: _, nodes: _ } => long,
-        DeltaRead::Refused { why: _, at } => at,
+        Ok(DeltaRead { ops: _, nodes: _ }) => long,
+        Err(DeltaFault { why: _, at }) => at,
     }
 }
 
@@ -104,23 +105,31 @@ pub fn odd_number(profile: Profile) -> Refusal
 }
 
 // The verdict on a delta in a profile, from document 01's, by the records before the fault.
-fn read_formed(profile: Profile, delta: &[u8], read: DeltaRead) -> DeltaRead
+fn read_formed(
+    profile: Profile,
+    delta: &[u8],
+    read: Result<DeltaRead, DeltaFault>,
+) -> Result<DeltaRead, DeltaFault>
     requires { read ≡ delta_read delta.now }
     ensures { result ≡ delta_read_as profile delta.now }
 {
     let end = end_of(delta.len(), read);
     let odd = first_odd(profile, delta, end);
     if odd < end {
-        return DeltaRead::Refused {
+        return Err(DeltaFault {
             why: odd_number(profile),
             at: odd,
-        };
+        });
     }
     read
 }
 
 // The same, where a free table looks at no record.
-pub fn read_as(profile: Profile, delta: &[u8], read: DeltaRead) -> DeltaRead
+pub fn read_as(
+    profile: Profile,
+    delta: &[u8],
+    read: Result<DeltaRead, DeltaFault>,
+) -> Result<DeltaRead, DeltaFault>
     requires { read ≡ delta_read delta.now }
     ensures { result ≡ delta_read_as profile delta.now }
 {

@@ -22,8 +22,9 @@ use Rattle.delta_make.specs.Making.{on_read, placed_byte, read_made, stored_at, 
 use Rattle.delta_make.specs.declared.Stage.{Stage}
 use Rattle.delta_make.specs.declared.Stage.TheVariants.{Lines, End, Bad}
 use Rattle.delta_make.specs.declared.Making.{Making}
-use Rattle.delta_make.specs.declared.Made.{Made}
-use Rattle.delta_make.specs.declared.Made.TheVariants as made
+use Rattle.std.specs.Prelude.{Err, Result}
+use Rattle.delta_make.specs.declared.NotMade.{NotMade}
+use Rattle.delta_make.specs.declared.NotMade.TheVariants as not_made
 use Rattle.delta_make.proofs.Taken.{no_size}
 
 gives : {A M : Type 0} (of : Given A M) (a : A) (m : M) → of ≡ given a m → Gives of a m
@@ -153,11 +154,11 @@ module _ (m : Making) (delta : Bytes) where
   unfolding finished
   finished-at s e = ap (λ (x : Stage). finished_at x m delta) (sym e)
 
-  pub finished-lines : (n : ℕ) → m.stage ≡ Lines → n ≡ up_by m.ops 1 → made.BadLine n ≡ finished m delta
-  finished-lines n e u = ap made.BadLine u ∙ finished-at Lines e
+  pub finished-lines : (n : ℕ) → m.stage ≡ Lines → n ≡ up_by m.ops 1 → (Err (not_made.BadLine n)) ≡ finished m delta
+  finished-lines n e u = ap (λ a. Err (not_made.BadLine a)) u ∙ finished-at Lines e
 
-  pub finished-end : (r : Made) → m.stage ≡ End → r ≡ read_made m.bytes delta → r ≡ finished m delta
+  pub finished-end : (r : Result ℕ NotMade) → m.stage ≡ End → r ≡ read_made m.bytes delta → r ≡ finished m delta
   finished-end r e q = q ∙ finished-at End e
 
-  pub finished-bad : (n : ℕ) → m.stage ≡ Bad n → made.BadLine n ≡ finished m delta
+  pub finished-bad : (n : ℕ) → m.stage ≡ Bad n → (Err (not_made.BadLine n)) ≡ finished m delta
   finished-bad n e = finished-at (Bad n) e

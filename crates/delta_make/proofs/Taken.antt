@@ -29,12 +29,13 @@ use Rattle.listing_read.specs.Unlist.{Line, LineRead, NoLine, NotInForm, Unliste
 use Rattle.listing_read.proofs.Lines.{line_read}
 use Rattle.listing_read.proofs.Relisted.{line-is, starts-then}
 use Rattle.listing_line.specs.Told.{LineTold}
-use Rattle.delta_make.specs.Making.{Outcome, bad_at, longest_line, made_of, read_made, stored_at}
+use Rattle.delta_make.specs.Making.{Outcome, bad_at, longest_line, made_of, read_made, refused_at, stored_at}
 use Rattle.delta_make.specs.declared.Stage.{Stage}
 use Rattle.delta_make.specs.declared.Stage.TheVariants.{Lines, End, Bad}
 use Rattle.delta_make.specs.declared.Making.{Making}
-use Rattle.delta_make.specs.declared.Made.{Made}
-use Rattle.delta_make.specs.declared.Made.TheVariants as made
+use Rattle.std.specs.Prelude.{Err, Ok, Result}
+use Rattle.delta_make.specs.declared.NotMade.{NotMade}
+use Rattle.delta_make.specs.declared.NotMade.TheVariants as not_made
 use Rattle.delta_make.proofs.Holding.{AllBack, AtStage, Back, Begun, Counted, Ended, Failed, Holds, TakesLine, no_feed}
 use Rattle.delta_make.proofs.Text.{Closed, end-closed, line-closed, lines-count, lines-size, unlist-bad, unlist-behind, unlist-end}
 
@@ -406,7 +407,7 @@ few-made bytes delta h g =
     let k : bytes ≤ length delta = omega arith in
     rw (le-leb bytes max_delta h, le-leb bytes (length delta) k)
 
-many-made : (bytes : ℕ) (delta : Bytes) → max_delta < bytes → read_made bytes delta ≡ made.Refused TooMany 0
+many-made : (bytes : ℕ) (delta : Bytes) → max_delta < bytes → read_made bytes delta ≡ refused_at TooMany 0
 unfolding read_made
 many-made bytes delta h = rw (lt-leb bytes max_delta h)
 
@@ -414,8 +415,8 @@ many_read : (l : Bytes) → max_delta < length l → read_delta l ≡ rule.Fault
 unfolding read_delta
 many_read l h = rw (lt-leb (length l) max_delta h)
 
-outcome : (bytes : ℕ) (delta l : Bytes) (r : Made) (read : rule.Ops) → bytes ≡ length l → (bytes ≤ max_delta → take bytes delta ≡ l) → read_delta l ≡ read
-    → (bytes ≤ max_delta → r ≡ made_of bytes read) → (max_delta < bytes → r ≡ made.Refused TooMany 0) → Outcome (judged l read) r delta
+outcome : (bytes : ℕ) (delta l : Bytes) (r : Result ℕ NotMade) (read : rule.Ops) → bytes ≡ length l → (bytes ≤ max_delta → take bytes delta ≡ l) → read_delta l ≡ read
+    → (bytes ≤ max_delta → r ≡ made_of bytes read) → (max_delta < bytes → r ≡ refused_at TooMany 0) → Outcome (judged l read) r delta
 outcome bytes delta l r read e s q few many = elim (dec_le bytes max_delta) [
   | yes h ↦ within read (few h) (s h)
   | no h ↦
@@ -424,13 +425,13 @@ outcome bytes delta l r read e s q few many = elim (dec_le bytes max_delta) [
 ]
   where
     within : (x : rule.Ops) → r ≡ made_of bytes x → take bytes delta ≡ l → Outcome (judged l x) r delta
-    within (rule.Good ops) w p = (w ∙ ap made.Bytes e, ap (λ (z : ℕ). take z delta) (sym e) ∙ p)
+    within (rule.Good ops) w p = (w ∙ ap Ok e, ap (λ (z : ℕ). take z delta) (sym e) ∙ p)
     within (rule.Faulty why at) w p = w
 
-    over : (x : rule.Ops) → x ≡ rule.Faulty TooMany 0 → r ≡ made.Refused TooMany 0 → Outcome (judged l x) r delta
+    over : (x : rule.Ops) → x ≡ rule.Faulty TooMany 0 → r ≡ refused_at TooMany 0 → Outcome (judged l x) r delta
     over x p w = subst (λ (y : rule.Ops). Outcome (judged l y) r delta) (sym p) w
 
-pub reads : (t : Bytes) (ops bytes : ℕ) (delta : Bytes) (r : Made) → Ended t ops bytes delta → max_delta ≤ length delta → r ≡ read_made bytes delta → Outcome (unlist t) r delta
+pub reads : (t : Bytes) (ops bytes : ℕ) (delta : Bytes) (r : Result ℕ NotMade) → Ended t ops bytes delta → max_delta ≤ length delta → r ≡ read_made bytes delta → Outcome (unlist t) r delta
 reads t ops bytes delta r b big e =
     let l : Bytes = delta_bytes b.list in
     let k = b.counted in
@@ -544,18 +545,18 @@ module _ (l : Bytes) (ops bytes : ℕ) (delta : Bytes) where
 
 -- the end of the text
 module _ (m : Making) (line delta t : Bytes) (small : length t < numbers) (h : Holds t m line delta) where
-  pub ends-lines : (n : ℕ) → m.stage ≡ Lines → (m.ops + 1 < numbers → n ≡ m.ops + 1) → Outcome (unlist t) (made.BadLine n) delta
+  pub ends-lines : (n : ℕ) → m.stage ≡ Lines → (m.ops + 1 < numbers → n ≡ m.ops + 1) → Outcome (unlist t) (Err (not_made.BadLine n)) delta
   ends-lines n e u =
       let now = at t line delta m Lines e (h small).2 in
-      subst (λ (x : Unlisted). Outcome x (made.BadLine n) delta) (sym (missing t (take m.held line) m.ops m.bytes delta n now.1 small u)) refl
+      subst (λ (x : Unlisted). Outcome x (Err (not_made.BadLine n)) delta) (sym (missing t (take m.held line) m.ops m.bytes delta n now.1 small u)) refl
 
-  pub ends-bad : (n : ℕ) → m.stage ≡ Bad n → Outcome (unlist t) (made.BadLine n) delta
+  pub ends-bad : (n : ℕ) → m.stage ≡ Bad n → Outcome (unlist t) (Err (not_made.BadLine n)) delta
   ends-bad n e =
       let failed : Failed t n = at t line delta m (Bad n) e (h small).2 in
       let is : unlist t ≡ NotInForm n = ap unlist (sym (append-nil t)) ∙ failed [] in
-      subst (λ (x : Unlisted). Outcome x (made.BadLine n) delta) (sym is) refl
+      subst (λ (x : Unlisted). Outcome x (Err (not_made.BadLine n)) delta) (sym is) refl
 
-  pub ends-end : (r : Made) → m.stage ≡ End → r ≡ read_made m.bytes delta → Outcome (unlist t) r delta
+  pub ends-end : (r : Result ℕ NotMade) → m.stage ≡ End → r ≡ read_made m.bytes delta → Outcome (unlist t) r delta
   ends-end r e q = reads t m.ops m.bytes delta r (at t line delta m End e (h small).2) (h small).1 q
 
 length-take-short : (r : ℕ) (l : Bytes) → length (take r l) ≤ length l

@@ -12,12 +12,14 @@ use Rattle.rules.specs.Given.{Given, given}
 use Rattle.rules.specs.Listing.{ascii, decimal, end_line, line_feed}
 use Rattle.rules.specs.Sizes.{max_delta, top}
 use Rattle.listing_read.specs.Unlist.{Delta, Faulty, Line, LineRead, NoLine, NotInForm, Unlisted, read_line}
+use Rattle.rules.specs.declared.Refusal.{Refusal}
 use Rattle.rules.specs.declared.Refusal.TheVariants.{TooMany}
 use Rattle.delta_make.specs.declared.Stage.{Stage}
 use Rattle.delta_make.specs.declared.Stage.TheVariants.{Lines, End, Bad}
 use Rattle.delta_make.specs.declared.Making.{Making}
-use Rattle.delta_make.specs.declared.Made.{Made}
-use Rattle.delta_make.specs.declared.Made.TheVariants as made
+use Rattle.std.specs.Prelude.{Err, Ok, Result}
+use Rattle.delta_make.specs.declared.NotMade.{NotMade}
+use Rattle.delta_make.specs.declared.NotMade.TheVariants as not_made
 
 -- the longest line, with its line feed
 abbrev pub longest_line : ℕ
@@ -105,30 +107,34 @@ taken_in (b ∷ piece) s = taken_in piece (taken_byte b s)
 
 -- ---- the end of the text
 
-abbrev pub made_of : (bytes : ℕ) (read : rule.Ops) → Made
-made_of n (rule.Good ops) = made.Bytes n
-made_of n (rule.Faulty r at) = made.Refused r at
+-- the delta is refused, and where
+abbrev pub refused_at : (why : Refusal) (at : ℕ) → Result ℕ NotMade
+refused_at r at = Err (not_made.Refused (record { why = r; at = at }))
+
+abbrev pub made_of : (bytes : ℕ) (read : rule.Ops) → Result ℕ NotMade
+made_of n (rule.Good ops) = Ok n
+made_of n (rule.Faulty r at) = refused_at r at
 
 -- what reading the delta answers, if it is not too long
-unfoldable pub read_made : (bytes : ℕ) (delta : Bytes) → Made
-read_made n delta = pick (leb n max_delta) (pick (leb n (length delta)) (made_of n (read_delta (take n delta))) (made.Refused TooMany 0)) (made.Refused TooMany 0)
+unfoldable pub read_made : (bytes : ℕ) (delta : Bytes) → Result ℕ NotMade
+read_made n delta = pick (leb n max_delta) (pick (leb n (length delta)) (made_of n (read_delta (take n delta))) (refused_at TooMany 0)) (refused_at TooMany 0)
 
 -- a line that is not closed, or an end line that is missing, is the line behind the operations
-abbrev pub finished_at : (stage : Stage) (making : Making) (delta : Bytes) → Made
-finished_at Lines m delta = made.BadLine (up_by m.ops 1)
+abbrev pub finished_at : (stage : Stage) (making : Making) (delta : Bytes) → Result ℕ NotMade
+finished_at Lines m delta = Err (not_made.BadLine (up_by m.ops 1))
 finished_at End m delta = read_made m.bytes delta
-finished_at (Bad n) m delta = made.BadLine n
+finished_at (Bad n) m delta = Err (not_made.BadLine n)
 
-unfoldable pub finished : (making : Making) (delta : Bytes) → Made
+unfoldable pub finished : (making : Making) (delta : Bytes) → Result ℕ NotMade
 finished m delta = finished_at m.stage m delta
 
 -- ---- what a whole text gives
 
 -- the answer is what reading the listing gives; of an accepted delta the bytes stand at the front of the lent memory
-abbrev pub Outcome : (of : Unlisted) (answer : Made) (delta : Bytes) → Type 0
-Outcome (Delta b) r delta = (r ≡ made.Bytes (length b)) × (take (length b) delta ≡ b)
-Outcome (NotInForm n) r delta = r ≡ made.BadLine n
-Outcome (Faulty why at) r delta = r ≡ made.Refused why at
+abbrev pub Outcome : (of : Unlisted) (answer : Result ℕ NotMade) (delta : Bytes) → Type 0
+Outcome (Delta b) r delta = (r ≡ Ok (length b)) × (take (length b) delta ≡ b)
+Outcome (NotInForm n) r delta = r ≡ Err (not_made.BadLine n)
+Outcome (Faulty why at) r delta = r ≡ refused_at why at
 
 -- the line that is printed of a line that is not in its form
 unfoldable pub bad_line : (line : ℕ) → Bytes

@@ -7,10 +7,11 @@ ghost use Rattle.fields.specs.Order.{same_bytes};
 ghost use Rattle.rules.specs.Given.{Gives};
 ghost use Rattle.rules.specs.Listing.{end_line};
 ghost use Rattle.listing_text.specs.Texts.{TextFits, put_text};
+ghost use Rattle.delta_make.specs.declared.NotMade.TheVariants.{Refused};
 ghost use Rattle.delta_make.specs.Making.{among_taken, bad_at, bad_line, both, finished, kept, line_taken, read_made, started};
 ghost use Rattle.delta_make.specs.Making.{stored_at, taken_byte, taken_in, up_by};
 
-use rules::{DeltaRead, Refusal, sizes};
+use rules::{DeltaFault, Refusal, sizes};
 
 // The longest line, with its line feed: a record with 20 digits, `delete`, 32 and 64 bytes of which each takes three.
 pub const LONGEST_LINE: usize = 349;
@@ -44,12 +45,19 @@ pub struct Making {
     pub bytes: usize,
 }
 
-// What a whole text gives: a delta of so many bytes; the first line that is not in its form; or why the delta is refused, and where.
+// Why no delta was made: the line of this number is not in its form, or the delta is refused, and where.
 #[derive(Clone, Copy)]
-pub enum Made {
-    Bytes(usize),
+pub enum NotMade {
     BadLine(usize),
-    Refused { why: Refusal, at: usize },
+    Refused(DeltaFault),
+}
+
+impl From<DeltaFault> for NotMade {
+    ghost from_gives = { λ fault e. e ≡ Refused fault };
+
+    fn from(fault: DeltaFault) -> NotMade {
+        NotMade::Refused(fault)
+    }
 }
 
 // A count that goes on; at its end it stays.
@@ -181,46 +189,35 @@ pub fn take_in(making: Making, piece: &[u8], line: &mut [u8], delta: &mut [u8]) 
         result (both line.new delta.new) }
 {
     let mut taken = making;
-    let mut i: usize = 0;
-    while i < piece.len() {
-        taken = take_byte(taken, piece[i], line, delta);
-        i += 1;
+    for byte in piece {
+        taken = take_byte(taken, *byte, line, delta);
     }
     taken
 }
 
 // What reading the delta answers, if it is not too long.
-fn read_made(bytes: usize, delta: &[u8]) -> Made
+fn read_made(bytes: usize, delta: &[u8]) -> Result<usize, NotMade>
     ensures { result ≡ read_made bytes delta.now }
 {
-    if sizes::LONGEST_DELTA < bytes {
-        return Made::Refused {
+    if sizes::LONGEST_DELTA < bytes || delta.len() < bytes {
+        return Err(NotMade::Refused(DeltaFault {
             why: Refusal::TooMany,
             at: 0,
-        };
+        }));
     }
-    if delta.len() < bytes {
-        return Made::Refused {
-            why: Refusal::TooMany,
-            at: 0,
-        };
-    }
-    let read = delta_read::read_delta(&delta[..bytes]);
-    match read {
-        DeltaRead::Good { ops: _, nodes: _ } => Made::Bytes(bytes),
-        DeltaRead::Refused { why, at } => Made::Refused { why, at },
-    }
+    delta_read::read_delta(&delta[..bytes])?;
+    Ok(bytes)
 }
 
 // At the text's end.
-pub fn finish(making: Making, delta: &[u8]) -> Made
+pub fn finish(making: Making, delta: &[u8]) -> Result<usize, NotMade>
     ensures { result ≡ finished making delta.now }
 {
     let stage = making.stage;
     match stage {
-        Stage::Lines => Made::BadLine(up(making.ops, 1)),
+        Stage::Lines => Err(NotMade::BadLine(up(making.ops, 1))),
         Stage::End => read_made(making.bytes, delta),
-        Stage::Bad(n) => Made::BadLine(n),
+        Stage::Bad(n) => Err(NotMade::BadLine(n)),
     }
 }
 

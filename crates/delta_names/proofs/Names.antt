@@ -9,10 +9,12 @@ use Rattle.fields.specs.Parts.{put}
 use Rattle.fields.proofs.Parts.{put-cons, put-nil}
 use Rattle.rules.specs.Delta as rule
 use Rattle.rules.specs.Given.{Gives, given}
+use Rattle.rules.proofs.Results.{err-is, ok-is}
+use Rattle.rules.specs.declared.DeltaFault.{DeltaFault}
+use Rattle.rules.specs.declared.DeltaRead.{DeltaRead}
 use Rattle.rules.specs.declared.Refusal.{Refusal}
 use Rattle.rules.specs.declared.Refusal.TheVariants.{NoPlace}
-use Rattle.rules.specs.declared.Applied.TheVariants as applied
-use Rattle.rules.specs.declared.DeltaRead.TheVariants as read
+use Rattle.std.specs.Prelude.{Err, Ok}
 use Rattle.delta_op.proofs.Plain.{good-plain}
 use Rattle.delta_read.specs.NodeDeltas.{AllHeads, no_part, parts_from}
 use Rattle.delta_names.specs.Names.{NodesLie, delta_nodes, list_numbers, nodes_on, number_at, numbers_at, numbers_in}
@@ -55,27 +57,28 @@ same_numbers s at (x ∷ xs) i h =
 -- ---- by what reading has answered
 
 module _ (l list : List ℕ) where
-  pub on-refused : (r : Refusal) (at : ℕ) → rule.delta_read l ≡ read.Refused r at → delta_nodes l list ≡ given (applied.Refused r at) list
+  pub on-refused : (r : Refusal) (at : ℕ) → rule.delta_read l ≡ (Err (record { why = r; at = at })) → delta_nodes l list ≡ given (Err (record { why = r; at = at })) list
   unfolding rule.delta_read delta_nodes
   on-refused r at e = go (rule.read_delta l) e
     where
-      go : (x : rule.Ops) → rule.read_answer x ≡ read.Refused r at → nodes_on x list ≡ given (applied.Refused r at) list
+      go : (x : rule.Ops) → rule.read_answer x ≡ (Err (record { why = r; at = at })) → nodes_on x list ≡ given (Err (record { why = r; at = at })) list
       go (rule.Good os) a = let z : ◌≡◌ {A = ℕ} 0 1 = cc in absurd (omega arith)
       go (rule.Faulty s b) a =
-          let p : s ≡ r = cc in
-          let q : b ≡ at = cc in
-          ap₂ (λ (x : Refusal) (y : ℕ). given (applied.Refused x y) list) p q
+          let f = err-is _ _ a in
+          let p : s ≡ r = ap (λ (x : DeltaFault). x.why) f in
+          let q : b ≡ at = ap (λ (x : DeltaFault). x.at) f in
+          ap₂ (λ (x : Refusal) (y : ℕ). given (Err (record { why = x; at = y })) list) p q
 
-  module _ (ops nodes : ℕ) (e : rule.delta_read l ≡ read.Good ops nodes) where
+  module _ (ops nodes : ℕ) (e : rule.delta_read l ≡ (Ok (record { ops = ops; nodes = nodes }))) where
     by_parts : (delta_nodes l list ≡ list_numbers (numbers_in (parts_from l 0)) list) × (length (parts_from l 0) ≡ nodes)
     unfolding rule.delta_read delta_nodes parts_from
     by_parts = go (rule.read_delta l) refl e
       where
-        go : (x : rule.Ops) → rule.read_delta l ≡ x → rule.read_answer x ≡ read.Good ops nodes
+        go : (x : rule.Ops) → rule.read_delta l ≡ x → rule.read_answer x ≡ (Ok (record { ops = ops; nodes = nodes }))
             → (nodes_on x list ≡ list_numbers (numbers_in (parts_from l 0)) list) × (length (parts_from l 0) ≡ nodes)
         go (rule.Good os) q a =
             let p = good-plain l os q in
-            let k : length (rule.parts_of os) ≡ nodes = cc in
+            let k : length (rule.parts_of os) ≡ nodes = ap (λ (x : DeltaRead). x.nodes) (ok-is _ _ a) in
             (rw p.0, rw p.0 k)
         go (rule.Faulty r at) q a = let z : ◌≡◌ {A = ℕ} 0 1 = cc in absurd (omega arith)
 
@@ -98,14 +101,14 @@ module _ (l list : List ℕ) where
       count-is : length (numbers_in (parts_from l 0)) ≡ nodes
       count-is = long (parts_from l 0) ∙ by_parts.1
 
-      pub on-short : length list < nodes → Gives (delta_nodes l list) (applied.Refused NoPlace 0) list
+      pub on-short : length list < nodes → Gives (delta_nodes l list) (Err (record { why = NoPlace; at = 0 })) list
       on-short h =
           let f = by_parts.0 in
           let g = lt-leb (length (numbers_in (parts_from l 0))) (length list) (omega (arith, count-is)) in
           rw (f, g) (refl, refl)
 
-      pub on-good : nodes ≤ length list → (m : List ℕ) → m ≡ put 0 (numbers_at l at 0 nodes) list → Gives (delta_nodes l list) (applied.Nodes nodes) m
+      pub on-good : nodes ≤ length list → (m : List ℕ) → m ≡ put 0 (numbers_at l at 0 nodes) list → Gives (delta_nodes l list) (Ok nodes) m
       on-good h m q =
           let f = by_parts.0 in
           let g = le-leb (length (numbers_in (parts_from l 0))) (length list) (omega (arith, count-is)) in
-          rw (f, g) (ap applied.Nodes (sym count-is), q ∙ ap (λ (ns : List ℕ). put 0 ns list) numbers)
+          rw (f, g) (ap Ok (sym count-is), q ∙ ap (λ (ns : List ℕ). put 0 ns list) numbers)

@@ -7,8 +7,8 @@ use Rattle.fields.specs.Widths.{offset}
 use Rattle.rules.specs.Delta.{Faulty, Good, Ops, Part, node_op_width, node_op_widths, number_width, parts_of, read_delta}
 use Rattle.rules.specs.Given.{Given, given}
 use Rattle.rules.specs.declared.Refusal.TheVariants.{NoPlace}
-use Rattle.rules.specs.declared.Applied.{Applied}
-use Rattle.rules.specs.declared.Applied.TheVariants.{Nodes, Refused}
+use Rattle.std.specs.Prelude.{Err, Ok, Result}
+use Rattle.rules.specs.declared.DeltaFault.{DeltaFault}
 
 -- the numbers of node deltas
 unfoldable pub numbers_in : (parts : List Part) → List ℕ
@@ -16,14 +16,14 @@ numbers_in [] = []
 numbers_in (x ∷ xs) = x.number ∷ numbers_in xs
 
 -- at the front of the list, whose later places are untouched
-abbrev pub list_numbers : (numbers list : List ℕ) → Given Applied (List ℕ)
-list_numbers ns l = pick (leb (length ns) (length l)) (given (Nodes (length ns)) (put 0 ns l)) (given (Refused NoPlace 0) l)
+abbrev pub list_numbers : (numbers list : List ℕ) → Given (Result ℕ DeltaFault) (List ℕ)
+list_numbers ns l = pick (leb (length ns) (length l)) (given (Ok (length ns)) (put 0 ns l)) (given (Err (record { why = NoPlace; at = 0 })) l)
 
-abbrev pub nodes_on : (read : Ops) (list : List ℕ) → Given Applied (List ℕ)
+abbrev pub nodes_on : (read : Ops) (list : List ℕ) → Given (Result ℕ DeltaFault) (List ℕ)
 nodes_on (Good ops) l = list_numbers (numbers_in (parts_of ops)) l
-nodes_on (Faulty r at) l = given (Refused r at) l
+nodes_on (Faulty r at) l = given (Err (record { why = r; at = at })) l
 
-unfoldable pub delta_nodes : (delta : Bytes) (list : List ℕ) → Given Applied (List ℕ)
+unfoldable pub delta_nodes : (delta : Bytes) (list : List ℕ) → Given (Result ℕ DeltaFault) (List ℕ)
 delta_nodes delta l = nodes_on (read_delta delta) l
 
 -- ---- in the bytes

@@ -13,8 +13,7 @@ use Rattle.rules.specs.Delta as rule
 use Rattle.rules.specs.declared.Refusal.{Refusal}
 use Rattle.rules.specs.declared.Refusal.TheVariants.{TooMany}
 use Rattle.delta_op.specs.declared.Op.{Op}
-use Rattle.delta_op.specs.declared.OpRead.{OpRead}
-use Rattle.delta_op.specs.declared.OpRead.TheVariants.{Got, Bad}
+use Rattle.std.specs.Prelude.{Err, Ok, Result}
 use Rattle.delta_op.specs.Places.{op_of, meant, op_at}
 use Rattle.delta_op.specs.Plain.{on_plain, plain_ops, ops_from}
 use Rattle.delta_op.proofs.Reading.{Within, read_at, op-within, le-or-lt}
@@ -28,9 +27,9 @@ pub shorter : (l : List ℕ) {o : rule.Op} {rest : List ℕ} → rule.read_op l 
 unfolding Shorter
 shorter l {o} {rest} e = subst (Shorter (length l)) (sym (read_at l 0 (omega arith)) ∙ e) (go (op_at l 0) (op-within l 0))
   where
-    go : (r : OpRead) → Within (length l) 0 r → Shorter (length l) (meant l r)
-    go (Got o next) w = rw (length-drop next l) (omega arith)
-    go (Bad r) w = tt
+    go : (r : (Result (Op × ℕ) Refusal)) → Within (length l) 0 r → Shorter (length l) (meant l r)
+    go (Ok (o, next)) w = rw (length-drop next l) (omega arith)
+    go (Err r) w = tt
 
 -- two ways to go on that agree where an operation was read
 plain-alike : (f g : List ℕ → List rule.Op) (r : rule.OpRead) → ((o : rule.Op) (rest : List ℕ) → r ≡ rule.Got o rest → f rest ≡ g rest)
@@ -64,13 +63,13 @@ module _ (l : List ℕ) (at : ℕ) where
   plain-one k e h =
       ap (λ (j : ℕ). plain_ops j (drop at l)) (sym e) ∙ ap (on_plain (λ rest. plain_ops k rest)) (read_at l at (omega arith))
 
-  pub plain-bad : (r : Refusal) → at < length l → op_at l at ≡ Bad r → ops_from l at ≡ []
+  pub plain-bad : (r : Refusal) → at < length l → op_at l at ≡ Err r → ops_from l at ≡ []
   plain-bad r h e = plain-one (length l - at - 1) (omega arith) h ∙ rw e
 
-  pub plain-next : (o : Op) (next : ℕ) → at < length l → op_at l at ≡ Got o next → ops_from l at ≡ op_of l o ∷ ops_from l next
+  pub plain-next : (o : Op) (next : ℕ) → at < length l → op_at l at ≡ (Ok (o, next)) → ops_from l at ≡ op_of l o ∷ ops_from l next
   unfolding ops_from
   plain-next o next h e =
-      let w : Within (length l) at (Got o next) = subst (Within (length l) at) e (op-within l at) in
+      let w : Within (length l) at (Ok (o, next)) = subst (Within (length l) at) e (op-within l at) in
       let k : ℕ = length l - at - 1 in
       let lo : length l - next ≤ k = omega arith in
       plain-one k (omega arith) h

@@ -23,10 +23,10 @@ use Rattle.rules.specs.declared.Status.{Status}
 use Rattle.rules.specs.declared.Status.TheVariants.{Ttl}
 use Rattle.rules.specs.declared.Refusal.TheVariants.{Cut, BadTag}
 use Rattle.delta_op.specs.declared.Op.{Op}
-use Rattle.delta_op.specs.declared.OpRead.{OpRead}
-use Rattle.delta_op.specs.declared.OpRead.TheVariants.{Got, Bad}
-use Rattle.delta_op.specs.declared.TextRead.{TextRead}
-use Rattle.delta_op.specs.declared.TextRead.TheVariants as text
+use Rattle.std.specs.Prelude.{Err, Ok, Result}
+use Rattle.rules.specs.declared.Refusal.{Refusal}
+use Rattle.delta_op.specs.declared.TextFault.{TextFault}
+use Rattle.delta_op.specs.declared.TextFault.TheVariants as fault
 use Rattle.delta_op.specs.Places.{Inside, key_value_at, meant, node_at, on_text, op_at, set_max_version_at, tagged_at, text_at, value_at, version_at, width_of}
 
 -- ---- one field
@@ -109,7 +109,7 @@ module _ (l : Bytes) (at : ℕ) (in-l : at + byte_width ≤ length l) where
       ]
 
 -- a text, where what comes next is read alike behind it
-text-read : (l : Bytes) (at : ℕ) → at ≤ length l → (most : ℕ) (next : List ℕ → List ℕ → rule.OpRead) (next' : ℕ → ℕ → OpRead)
+text-read : (l : Bytes) (at : ℕ) → at ≤ length l → (most : ℕ) (next : List ℕ → List ℕ → rule.OpRead) (next' : ℕ → ℕ → (Result (Op × ℕ) Refusal))
     → ((k n : ℕ) → k + n ≤ length l → next (part k n l) (drop (k + n) l) ≡ meant l (next' k n))
     → rule.text most next (drop at l) ≡ meant l (on_text next' (text_at most l at))
 unfolding text_at part
@@ -211,14 +211,14 @@ read_at l at in-l = elim (le-or-lt (at + byte_width) (length l)) [
 -- ---- where an operation ends, and where its key and value stand
 
 -- an operation takes its bytes, one at least, and ends within n bytes
-abbrev pub Within : (n at : ℕ) (read : OpRead) → Type 0
-Within len at (Got o next) = (at < next) × (next ≤ len) × Inside len o × (next ≡ at + width_of o)
-Within len at (Bad r) = Unit {0}
+abbrev pub Within : (n at : ℕ) (read : (Result (Op × ℕ) Refusal)) → Type 0
+Within len at (Ok (o, next)) = (at < next) × (next ≤ len) × Inside len o × (next ≡ at + width_of o)
+Within len at (Err r) = Unit {0}
 
-abbrev pub TextWithin : (most n at : ℕ) (read : TextRead) → Type 0
-TextWithin most len at (text.Held k n) = (k ≡ at + length_width) × (k + n ≤ len) × (n ≤ most)
-TextWithin most len at text.Long = Unit {0}
-TextWithin most len at (text.Cut n) = Unit {0}
+abbrev pub TextWithin : (most n at : ℕ) (read : (Result (ℕ × ℕ) TextFault)) → Type 0
+TextWithin most len at (Ok (k, n)) = (k ≡ at + length_width) × (k + n ≤ len) × (n ≤ most)
+TextWithin most len at (Err fault.Long) = Unit {0}
+TextWithin most len at (Err (fault.Cut n)) = Unit {0}
 
 module _ (l : Bytes) where
   pub text-within : (most at : ℕ) → TextWithin most (length l) at (text_at most l at)
@@ -255,19 +255,19 @@ module _ (l : Bytes) where
   unfolding value_at
   value-within at k n a kn nk = go (text_at max_value l (k + n)) (text-within max_value (k + n))
     where
-      go : (t : TextRead) → TextWithin max_value (length l) (k + n) t → Within (length l) at (on_text (λ v m. version_at l k n v m) t)
-      go (text.Held v m) w = version-within at k n v m (omega arith) kn nk w.2
-      go text.Long w = tt
-      go (text.Cut i) w = tt
+      go : (t : (Result (ℕ × ℕ) TextFault)) → TextWithin max_value (length l) (k + n) t → Within (length l) at (on_text (λ v m. version_at l k n v m) t)
+      go (Ok (v, m)) w = version-within at k n v m (omega arith) kn nk w.2
+      go (Err fault.Long) w = tt
+      go (Err (fault.Cut i)) w = tt
 
   key-value-within : (at : ℕ) → Within (length l) at (key_value_at l at)
   unfolding key_value_at
   key-value-within at = go (text_at max_key l (at + byte_width)) (text-within max_key (at + byte_width))
     where
-      go : (t : TextRead) → TextWithin max_key (length l) (at + byte_width) t → Within (length l) at (on_text (λ k n. value_at l k n) t)
-      go (text.Held k n) w = value-within at k n (omega arith) w.1 w.2
-      go text.Long w = tt
-      go (text.Cut i) w = tt
+      go : (t : (Result (ℕ × ℕ) TextFault)) → TextWithin max_key (length l) (at + byte_width) t → Within (length l) at (on_text (λ k n. value_at l k n) t)
+      go (Ok (k, n)) w = value-within at k n (omega arith) w.1 w.2
+      go (Err fault.Long) w = tt
+      go (Err (fault.Cut i)) w = tt
 
   node-within : (at : ℕ) → Within (length l) at (node_at l at)
   unfolding node_at
@@ -297,5 +297,5 @@ module _ (l : Bytes) where
   ]
 
 -- where the operation ends
-pub ends : (l : List ℕ) (at : ℕ) (o : Op) (next : ℕ) → op_at l at ≡ Got o next → (at < next) × (next ≤ length l)
-ends l at o next e = let w : Within (length l) at (Got o next) = subst (Within (length l) at) e (op-within l at) in (w.0, w.1)
+pub ends : (l : List ℕ) (at : ℕ) (o : Op) (next : ℕ) → op_at l at ≡ (Ok (o, next)) → (at < next) × (next ≤ length l)
+ends l at o next e = let w : Within (length l) at (Ok (o, next)) = subst (Within (length l) at) e (op-within l at) in (w.0, w.1)

@@ -7,7 +7,7 @@
 ghost use Rattle.std.specs.Prelude.{◌≡◌, ◌+◌, ◌≤◌, ◌<◌, length};
 ghost use Rattle.fields.specs.Widths.{total};
 ghost use Rattle.rules.specs.Delta.{version_widths};
-ghost use Rattle.delta_op.specs.Places.{key_value_at, node_at, op_at, set_max_version_at, text_at, value_at, version_at, version_lacks};
+ghost use Rattle.delta_op.specs.Places.{key_value_at, node_at, op_at, refusal_of, set_max_version_at, text_at, value_at, version_at, version_lacks};
 
 use rules::{Record, Refusal, Status, wire};
 
@@ -31,62 +31,65 @@ pub enum Op {
     },
 }
 
-// An operation and the place behind it, or why there is none.
+// Why a text is not read: its length is too long, or the bytes end and so many are lacking. It holds no refusal, which would be copied on the way of a text
+// that is there too.
 #[derive(Clone, Copy)]
-pub enum OpRead {
-    Got { op: Op, next: usize },
-    Bad(Refusal),
-}
-
-// A text behind its length: where it stands and how long it is; or its length is too long, or the bytes end and so many are lacking. It holds no refusal,
-// which would be copied on the way of a text that is there too.
-#[derive(Clone, Copy)]
-pub enum TextRead {
-    Held { start: usize, len: usize },
+pub enum TextFault {
     Long,
     Cut(usize),
 }
 
+impl From<TextFault> for Refusal {
+    ghost from_gives = { λ f r. r ≡ refusal_of f };
+
+    fn from(fault: TextFault) -> Refusal {
+        match fault {
+            TextFault::Long => Refusal::TooLong,
+            TextFault::Cut(need) => Refusal::Cut(need),
+        }
+    }
+}
+
 // The text whose length stands at `at`. An overlong length is refused before its bytes are looked at.
-fn read_text(delta: &[u8], at: usize, most: usize) -> TextRead
+fn read_text(delta: &[u8], at: usize, most: usize) -> Result<(usize, usize), TextFault>
     requires { at ≤ length delta.now }
     ensures { result ≡ text_at most delta.now at }
 {
     let present = delta.len() - at;
     if present < wire::LENGTH {
         let need = wire::LENGTH - present;
-        return TextRead::Cut(need);
+        return Err(TextFault::Cut(need));
     }
     let len = fields::read_u16(delta, at);
     if most < len {
-        return TextRead::Long;
+        return Err(TextFault::Long);
     }
     let start = at + wire::LENGTH;
     let behind = delta.len() - start;
     if behind < len {
         let need = len - behind;
-        return TextRead::Cut(need);
+        return Err(TextFault::Cut(need));
     }
-    TextRead::Held { start, len }
+    Ok((start, len))
 }
 
 // The Node whose tag stands at `at`.
-fn read_node(delta: &[u8], at: usize) -> OpRead
+fn read_node(delta: &[u8], at: usize) -> Result<(Op, usize), Refusal>
     requires { at < length delta.now }
     ensures { result ≡ node_at delta.now at }
 {
     let present = delta.len() - at;
     if present < wire::NODE_WIDTH {
-        return OpRead::Bad(Refusal::Cut(wire::number_lacks(present - wire::NODE_NUMBER)));
+        return Err(Refusal::Cut(wire::number_lacks(present - wire::NODE_NUMBER)));
     }
-    OpRead::Got {
-        op: Op::Node {
+    Ok((
+        Op::Node {
             number: fields::read_u64(delta, at + wire::NODE_NUMBER),
             last_gc: fields::read_u64(delta, at + wire::NODE_LAST_GC),
             from: fields::read_u64(delta, at + wire::NODE_FROM),
         },
-        next: at + wire::NODE_WIDTH,
-    }
+        at + wire::NODE_WIDTH,
+    ))
 }
 
 // What is lacking of version and status, of which so many bytes are there: of the one, or of the other.
@@ -107,21 +110,21 @@ fn read_version(
     keylen: usize,
     valueat: usize,
     valuelen: usize,
-) -> OpRead
+) -> Result<(Op, usize), Refusal>
     requires { valueat + valuelen ≤ length delta.now }
     ensures { result ≡ version_at delta.now keyat keylen valueat valuelen }
 {
     let at = valueat + valuelen;
     let present = delta.len() - at;
     if present < wire::VERSION_WIDTH {
-        return OpRead::Bad(Refusal::Cut(version_lacks(present)));
+        return Err(Refusal::Cut(version_lacks(present)));
     }
     let b = fields::byte_at(delta, at + wire::STATUS);
     if Status::LAST < b {
-        return OpRead::Bad(Refusal::BadTag);
+        return Err(Refusal::BadTag);
     }
-    OpRead::Got {
-        op: Op::KeyValue {
+    Ok((
+        Op::KeyValue {
             keyat,
             keylen,
             valueat,
@@ -129,66 +132,58 @@ fn read_version(
             version: fields::read_u64(delta, at),
             status: Status::of_byte(b),
         },
-        next: at + wire::VERSION_WIDTH,
-    }
+        at + wire::VERSION_WIDTH,
+    ))
 }
 
 // Value, version and status, behind the key.
-fn read_value(delta: &[u8], keyat: usize, keylen: usize) -> OpRead
+fn read_value(delta: &[u8], keyat: usize, keylen: usize) -> Result<(Op, usize), Refusal>
     requires { keyat + keylen ≤ length delta.now }
     ensures { result ≡ value_at delta.now keyat keylen }
 {
-    let value = read_text(delta, keyat + keylen, Record::VALUE);
-    match value {
-        TextRead::Held { start, len } => read_version(delta, keyat, keylen, start, len),
-        TextRead::Long => OpRead::Bad(Refusal::TooLong),
-        TextRead::Cut(need) => OpRead::Bad(Refusal::Cut(need)),
-    }
+    let (start, len) = read_text(delta, keyat + keylen, Record::VALUE)?;
+    read_version(delta, keyat, keylen, start, len)
 }
 
 // The KeyValue whose tag stands at `at`.
-fn read_key_value(delta: &[u8], at: usize) -> OpRead
+fn read_key_value(delta: &[u8], at: usize) -> Result<(Op, usize), Refusal>
     requires { at < length delta.now }
     ensures { result ≡ key_value_at delta.now at }
 {
-    let key = read_text(delta, at + wire::KEY_LENGTH, Record::KEY);
-    match key {
-        TextRead::Held { start, len } => read_value(delta, start, len),
-        TextRead::Long => OpRead::Bad(Refusal::TooLong),
-        TextRead::Cut(need) => OpRead::Bad(Refusal::Cut(need)),
-    }
+    let (start, len) = read_text(delta, at + wire::KEY_LENGTH, Record::KEY)?;
+    read_value(delta, start, len)
 }
 
 // The SetMaxVersion whose tag stands at `at`.
-fn read_set_max_version(delta: &[u8], at: usize) -> OpRead
+fn read_set_max_version(delta: &[u8], at: usize) -> Result<(Op, usize), Refusal>
     requires { at < length delta.now }
     ensures { result ≡ set_max_version_at delta.now at }
 {
     let present = delta.len() - at;
     if present < wire::MAX_WIDTH {
-        return OpRead::Bad(Refusal::Cut(wire::MAX_WIDTH - present));
+        return Err(Refusal::Cut(wire::MAX_WIDTH - present));
     }
-    OpRead::Got {
-        op: Op::SetMaxVersion {
+    Ok((
+        Op::SetMaxVersion {
             max: fields::read_u64(delta, at + wire::MAX),
         },
-        next: at + wire::MAX_WIDTH,
-    }
+        at + wire::MAX_WIDTH,
+    ))
 }
 
 // The operation whose tag stands at `at`.
-pub fn read_op(delta: &[u8], at: usize) -> OpRead
+pub fn read_op(delta: &[u8], at: usize) -> Result<(Op, usize), Refusal>
     requires { at ≤ length delta.now }
     ensures { result ≡ op_at delta.now at }
 {
     if at == delta.len() {
-        return OpRead::Bad(Refusal::Cut(wire::BYTE));
+        return Err(Refusal::Cut(wire::BYTE));
     }
     let tag = fields::byte_at(delta, at);
     match tag {
         wire::NODE => read_node(delta, at),
         wire::KEY_VALUE => read_key_value(delta, at),
         wire::SET_MAX_VERSION => read_set_max_version(delta, at),
-        _ => OpRead::Bad(Refusal::BadTag),
+        _ => Err(Refusal::BadTag),
     }
 }

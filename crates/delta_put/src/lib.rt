@@ -1,13 +1,13 @@
 // Reads a listing to its end, by pieces, and says what comes of it. Nothing is written before the whole listing has been judged.
 #![tactic(auto)]
 
-ghost use Rattle.std.specs.Prelude.{◌≡◌, ◌<◌, take, OnOk};
+ghost use Rattle.std.specs.Prelude.{◌≡◌, take, OnOk};
 ghost use Rattle.std.specs.Io.KnownBytes.{Appends};
 ghost use Rattle.delta_make.specs.Making.{bad_line, finished};
 ghost use Rattle.delta_put.specs.Texts.{put_text, show_text};
 
 use anyhow::Result;
-use delta_make::{Made, Making};
+use delta_make::{Making, NotMade};
 use rules::sizes;
 use std::io::{Read, Write};
 
@@ -20,57 +20,26 @@ const PIECE: usize = 4096;
 // So many whole pieces have fewer than 2^64 bytes, as far as `delta_make` counts.
 const PIECES: u64 = 4503599627370495;
 
-// What was taken in, and whether the input was read to its end.
-#[derive(Clone, Copy)]
-pub struct Taken {
-    pub making: Making,
-    pub ended: bool,
-}
-
 // The first `n` bytes; all of them where there are fewer.
 pub fn front(bytes: &[u8], n: usize) -> &[u8]
     ensures { result.now ≡ take n bytes.now }
 {
-    if bytes.len() < n {
-        return bytes;
-    }
-    &bytes[..n]
+    &bytes[..n.min(bytes.len())]
 }
 
-// The bytes behind the first `n`; none where there are fewer.
-pub fn behind(bytes: &[u8], n: usize) -> &[u8] {
-    if bytes.len() < n {
-        return &bytes[..0];
-    }
-    &bytes[n..]
-}
-
-// How many pieces may still come behind one of `n` bytes: none behind the last, which is not whole.
-fn pieces_left(left: u64, n: usize) -> u64
-    requires { 0 < left }
-    ensures { result < left }
-{
-    if n < PIECE {
-        return 0;
-    }
-    left - 1
-}
-
-// Takes in all that can be read.
-pub fn take_all<R: Read>(input: &mut R, delta: &mut [u8]) -> Result<Taken> {
+// Takes in all that can be read: what came of it, or none where the input did not end.
+pub fn take_all<R: Read>(input: &mut R, delta: &mut [u8]) -> Result<Option<Making>> {
     let mut line = [0u8; delta_make::LONGEST_LINE];
     let mut piece = [0u8; PIECE];
     let mut making = delta_make::start();
-    let mut left: u64 = PIECES;
-    let mut ended = false;
-    while 0 < left {
+    for _ in 0..PIECES {
         let filled = streams::fill(input, &mut piece)?;
-        let n = filled.len;
-        making = delta_make::take_in(making, front(&piece, n), &mut line, delta);
-        ended = filled.ended;
-        left = pieces_left(left, n);
+        making = delta_make::take_in(making, front(&piece, filled.len), &mut line, delta);
+        if filled.ended {
+            return Ok(Some(making));
+        }
     }
-    Ok(Taken { making, ended })
+    Ok(None)
 }
 
 // The line that says which line is not in its form.
@@ -89,9 +58,9 @@ pub fn put<W: Write>(out: &mut W, making: Making, delta: &[u8]) -> Result<()>
 {
     let made = delta_make::finish(making, delta);
     match made {
-        Made::Bytes(n) => streams::put(out, front(delta, n)),
-        Made::BadLine(n) => tell_line(out, n),
-        Made::Refused { why: _, at: _ } => listing_show::show(out, front(delta, making.bytes)),
+        Ok(n) => streams::put(out, front(delta, n)),
+        Err(NotMade::BadLine(n)) => tell_line(out, n),
+        Err(NotMade::Refused(_)) => listing_show::show(out, front(delta, making.bytes)),
     }
 }
 
@@ -102,8 +71,8 @@ pub fn show<W: Write>(out: &mut W, making: Making, delta: &[u8]) -> Result<()>
 {
     let made = delta_make::finish(making, delta);
     match made {
-        Made::Bytes(n) => listing_show::show(out, front(delta, n)),
-        Made::BadLine(n) => tell_line(out, n),
-        Made::Refused { why: _, at: _ } => listing_show::show(out, front(delta, making.bytes)),
+        Ok(n) => listing_show::show(out, front(delta, n)),
+        Err(NotMade::BadLine(n)) => tell_line(out, n),
+        Err(NotMade::Refused(_)) => listing_show::show(out, front(delta, making.bytes)),
     }
 }

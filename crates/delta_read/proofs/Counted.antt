@@ -11,17 +11,17 @@ use Rattle.rules.specs.Sizes.{max_delta, max_nodes}
 use Rattle.rules.specs.Delta as rule
 use Rattle.rules.specs.declared.Refusal.{Refusal}
 use Rattle.rules.specs.declared.Refusal.TheVariants.{TooMany}
-use Rattle.rules.specs.declared.DeltaRead.TheVariants as read
+use Rattle.std.specs.Prelude.{Err, Ok}
+use Rattle.delta_follow.specs.declared.Followed.TheVariants.{Entered}
+use Rattle.delta_follow.specs.declared.Followed.TheVariants.{Under}
 use Rattle.delta_op.specs.declared.Op.{Op}
-use Rattle.delta_op.specs.declared.OpRead.TheVariants.{Got, Bad}
-use Rattle.delta_follow.specs.declared.Followed.TheVariants.{Entered, Under, Fault}
 use Rattle.delta_op.specs.Places.{op_of, op_at}
 use Rattle.delta_follow.specs.Following.{seen_of, follow_at}
 use Rattle.delta_op.proofs.Reading.{ends}
 use Rattle.delta_read.proofs.Steps.{read_from, from_start, at-end, at-bad, at-fault, at_next}
 use Rattle.delta_read.proofs.Following.{seen_more, reading, now_reading, follows, counted, none-counted, nodes_in, one-counted, entered, stayed}
 
-pub too_long : (l : List ℕ) → 16384 < length l → read.Refused TooMany 0 ≡ rule.delta_read l
+pub too_long : (l : List ℕ) → 16384 < length l → (Err (record { why = TooMany; at = 0 })) ≡ rule.delta_read l
 unfolding rule.delta_read rule.read_delta
 too_long l h = rw (rule.delta_read, rule.read_delta, lt-leb (length l) max_delta h)
 
@@ -38,18 +38,18 @@ So-far l a nodes running ops at =
 
 -- one turn
 module _ (l : List ℕ) (at ops nodes running : ℕ) (a : List ℕ) (inv : counted ops nodes (read_from l at (reading nodes a running)) ≡ rule.delta_read l) where
-  pub done : length l ≤ at → read.Good ops nodes ≡ rule.delta_read l
+  pub done : length l ≤ at → (Ok (record { ops = ops; nodes = nodes })) ≡ rule.delta_read l
   unfolding rule.parts_of
   done h =
-      let z : counted ops nodes (rule.Good []) ≡ read.Good ops nodes = ap₂ read.Good (add-zero ops) (add-zero nodes) in
+      let z : counted ops nodes (rule.Good []) ≡ (Ok (record { ops = ops; nodes = nodes })) = ap₂ (λ a b. Ok (record { ops = a; nodes = b })) (add-zero ops) (add-zero nodes) in
       sym z ∙ sym (ap (counted ops nodes) (at-end l at (reading nodes a running) h)) ∙ inv
 
   module _ (h : at < length l) where
-    pub bad : (r : Refusal) → op_at l at ≡ Bad r → read.Refused r at ≡ rule.delta_read l
+    pub bad : (r : Refusal) → op_at l at ≡ Err r → (Err (record { why = r; at = at })) ≡ rule.delta_read l
     bad r e = sym (ap (counted ops nodes) (at-bad l at (reading nodes a running) r h e)) ∙ inv
 
-    module _ (o : Op) (next : ℕ) (e : op_at l at ≡ Got o next) where
-      pub fault : (r : Refusal) → follow_at nodes a running o ≡ Fault r → read.Refused r at ≡ rule.delta_read l
+    module _ (o : Op) (next : ℕ) (e : op_at l at ≡ (Ok (o, next))) where
+      pub fault : (r : Refusal) → follow_at nodes a running o ≡ Err r → (Err (record { why = r; at = at })) ≡ rule.delta_read l
       fault r f =
           sym (ap (counted ops nodes) (at-fault l at (reading nodes a running) o next h e r (follows l nodes a running o ∙ ap (now_reading nodes a) f))) ∙ inv
 
@@ -60,13 +60,13 @@ module _ (l : List ℕ) (at ops nodes running : ℕ) (a : List ℕ) (inv : count
           sym (one-counted ops nodes (op_of l o) (read_from l next t))
           ∙ sym (ap (counted ops nodes) (at_next l at (reading nodes a running) o next h e t f)) ∙ inv
 
-      pub under : (v : ℕ) → follow_at nodes a running o ≡ Under v → counted (ops + 1) nodes (read_from l next (reading nodes a v)) ≡ rule.delta_read l
+      pub under : (v : ℕ) → follow_at nodes a running o ≡ (Ok (Under v)) → counted (ops + 1) nodes (read_from l next (reading nodes a v)) ≡ rule.delta_read l
       under v f =
           let k : nodes + nodes_in (op_of l o) ≡ nodes = omega (arith, stayed l nodes a running o v f) in
           ap (λ (n : ℕ). counted (ops + 1) n (read_from l next (reading nodes a v))) (sym k)
           ∙ further (reading nodes a v) (follows l nodes a running o ∙ ap (now_reading nodes a) f)
 
-      pub new : (n : ℕ) → length a ≡ 8 → follow_at nodes a running o ≡ Entered n
+      pub new : (n : ℕ) → length a ≡ 8 → follow_at nodes a running o ≡ (Ok (Entered n))
           → counted (ops + 1) (nodes + 1) (read_from l next (reading (nodes + 1) (set a nodes n) 0)) ≡ rule.delta_read l
       new n long f =
           let is : (nodes_in (op_of l o) ≡ 1) × (nodes < max_nodes) = entered l nodes a running o n f in
@@ -80,8 +80,8 @@ module _ (l : List ℕ) (at ops nodes running : ℕ) (a : List ℕ) (inv : count
 
 -- a turn that goes on, with what it leaves
 module _ (l a : List ℕ) (nodes running ops at : ℕ) (so_far : So-far l a nodes running ops at) (h : at < length l)
-    (o : Op) (next : ℕ) (e : op_at l at ≡ Got o next) (a' : List ℕ) (nodes' running' : ℕ) where
-  pub on-new : (n : ℕ) → follow_at nodes a running o ≡ Entered n → a' ≡ set a nodes n → nodes' ≡ nodes + 1 → running' ≡ 0
+    (o : Op) (next : ℕ) (e : op_at l at ≡ (Ok (o, next))) (a' : List ℕ) (nodes' running' : ℕ) where
+  pub on-new : (n : ℕ) → follow_at nodes a running o ≡ (Ok (Entered n)) → a' ≡ set a nodes n → nodes' ≡ nodes + 1 → running' ≡ 0
       → So-far l a' nodes' running' (ops + 1) next
   on-new n f p q r =
       let w : (at < next) × (next ≤ length l) = ends l at o next e in
@@ -94,7 +94,7 @@ module _ (l a : List ℕ) (nodes running ops at : ℕ) (so_far : So-far l a node
         new l at ops nodes running a so_far.4 h o next e n so_far.3 f,
       )
 
-  pub on-under : (v : ℕ) → follow_at nodes a running o ≡ Under v → a' ≡ a → nodes' ≡ nodes → running' ≡ v → So-far l a' nodes' running' (ops + 1) next
+  pub on-under : (v : ℕ) → follow_at nodes a running o ≡ (Ok (Under v)) → a' ≡ a → nodes' ≡ nodes → running' ≡ v → So-far l a' nodes' running' (ops + 1) next
   on-under v f p q r =
       let w : (at < next) × (next ≤ length l) = ends l at o next e in
       rw (p, q, r) (w.1, so_far.1, omega (arith, so_far.2, w.0), so_far.3, under l at ops nodes running a so_far.4 h o next e v f)

@@ -15,14 +15,16 @@ use Rattle.rules.specs.Sizes.{max_nodes}
 use Rattle.rules.specs.Table.{among}
 use Rattle.rules.specs.Node as node
 use Rattle.rules.specs.Delta as rule
+use Rattle.rules.proofs.Results.{ok-is}
+use Rattle.rules.specs.declared.DeltaRead.{DeltaRead}
 use Rattle.rules.specs.declared.Refusal.{Refusal}
 use Rattle.rules.specs.declared.Refusal.TheVariants.{OutOfOrder, NodeTwice, TooMany}
-use Rattle.rules.specs.declared.DeltaRead.TheVariants as read
+use Rattle.std.specs.Prelude.{Err, Ok, Result}
+use Rattle.delta_follow.specs.declared.Followed.{Followed}
+use Rattle.delta_follow.specs.declared.Followed.TheVariants.{Entered}
+use Rattle.delta_follow.specs.declared.Followed.TheVariants.{Under}
 use Rattle.delta_op.specs.declared.Op.{Op}
 use Rattle.delta_op.specs.declared.Op.TheVariants.{Node, KeyValue, SetMaxVersion}
-use Rattle.delta_op.specs.declared.OpRead.TheVariants.{Got}
-use Rattle.delta_follow.specs.declared.Followed.{Followed}
-use Rattle.delta_follow.specs.declared.Followed.TheVariants.{Entered, Under, Fault}
 use Rattle.delta_op.specs.Places.{op_at}
 use Rattle.delta_follow.specs.Following.{follow_at, max_follows, node_follows, record_follows, seen_of, under_nodes}
 use Rattle.delta_op.specs.Plain.{ops_from, recs_from}
@@ -39,7 +41,7 @@ pub record Heading (s : List ℕ) (x : rule.Part) (at count max : ℕ) (ops : Li
   pub is : x ≡ node_delta_at s at (rule.max_of max ops)
   pub few : length x.delta.recs ≤ count + length (rule.recs_of ops)
 
-module _ (s : List ℕ) (at : ℕ) (h : at < length s) (n g f next : ℕ) (e : op_at s at ≡ Got (Node n g f) next) where
+module _ (s : List ℕ) (at : ℕ) (h : at < length s) (n g f next : ℕ) (e : op_at s at ≡ (Ok ((Node n g f), next))) where
   x : rule.Part
   x = record { number = n; delta = record { from = f; last_gc = g; recs = rule.recs_of (ops_from s next); max = rule.max_of 0 (ops_from s next) } }
 
@@ -75,18 +77,18 @@ module _ (s : List ℕ) (x : rule.Part) (at count max : ℕ) where
 -- ---- what was found to follow tells the operation
 
 -- the operation that was found to follow
-abbrev Found : ℕ → Op → Followed → Type 0
-Found nodes (Node n g f) (Entered i) = nodes < max_nodes
-Found nodes (KeyValue k n v m ver st) (Entered i) = ⊥
-Found nodes (SetMaxVersion m) (Entered i) = ⊥
-Found nodes (Node n g f) (Under r) = ⊥
-Found nodes (KeyValue k n v m ver st) (Under r) = (0 < nodes) × (r ≡ ver)
-Found nodes (SetMaxVersion m) (Under r) = (0 < nodes) × (r ≡ m)
-Found nodes o (Fault r) = Unit {0}
+abbrev Found : ℕ → Op → (Result Followed Refusal) → Type 0
+Found nodes (Node n g f) (Ok (Entered i)) = nodes < max_nodes
+Found nodes (KeyValue k n v m ver st) (Ok (Entered i)) = ⊥
+Found nodes (SetMaxVersion m) (Ok (Entered i)) = ⊥
+Found nodes (Node n g f) (Ok (Under r)) = ⊥
+Found nodes (KeyValue k n v m ver st) (Ok (Under r)) = (0 < nodes) × (r ≡ ver)
+Found nodes (SetMaxVersion m) (Ok (Under r)) = (0 < nodes) × (r ≡ m)
+Found nodes o (Err r) = Unit {0}
 
-found-under : (nodes : ℕ) (o : Op) (t : Bool) (v : ℕ) (r : Refusal) → (0 < nodes → Found nodes o (Under v)) → Found nodes o (Fault r)
-    → Found nodes o (Fault OutOfOrder)
-    → Found nodes o (under_nodes nodes (pick t (Under v) (Fault r)))
+found-under : (nodes : ℕ) (o : Op) (t : Bool) (v : ℕ) (r : Refusal) → (0 < nodes → Found nodes o (Ok (Under v))) → Found nodes o (Err r)
+    → Found nodes o (Err OutOfOrder)
+    → Found nodes o (under_nodes nodes (pick t (Ok (Under v)) (Err r)))
 found-under zero o t v r h p q = q
 found-under (suc n) o true v r h p q = h (omega arith)
 found-under (suc n) o false v r h p q = p
@@ -95,7 +97,7 @@ found : (nodes : ℕ) (a : List ℕ) (running : ℕ) (o : Op) → Found nodes o 
 unfolding follow_at node_follows record_follows max_follows
 found nodes a running (Node n g f) = go (among n (seen_of nodes a)) (ltb nodes max_nodes) (ltb-true nodes max_nodes)
   where
-    go : (s t : Bool) → (t ≡ true → nodes < max_nodes) → Found nodes (Node n g f) (pick s (Fault NodeTwice) (pick t (Entered n) (Fault TooMany)))
+    go : (s t : Bool) → (t ≡ true → nodes < max_nodes) → Found nodes (Node n g f) (pick s (Err NodeTwice) (pick t (Ok (Entered n)) (Err TooMany)))
     go true t h = tt
     go false true h = h refl
     go false false h = tt
@@ -153,7 +155,7 @@ module _ (s : List ℕ) where
     gathering-last h = ended [] (plain_end s at h) (λ x p c m. closes s x p c m)
 
     module _ (h : at < length s) where
-      gathering-node : (n g f next : ℕ) → op_at s at ≡ Got (Node n g f) next → nodes < max_nodes
+      gathering-node : (n g f next : ℕ) → op_at s at ≡ (Ok ((Node n g f), next)) → nodes < max_nodes
           → Gathering s (set places nodes at) (set counts (nodes - 1) under) (set maxes (nodes - 1) running) (nodes + 1) 0 0 next
       gathering-node n g f next e more =
           let d = drop_head (parts_from s 0) (parts_from s next) nodes (x s at h n g f next e) no_part (inv.left ∙ parts s at h n g f next e) in
@@ -187,14 +189,14 @@ module _ (s : List ℕ) where
           }
 
       -- what a turn leaves
-      module _ (o : Op) (next : ℕ) (e : op_at s at ≡ Got o next) (a : List ℕ) (places' counts' maxes' : List ℕ) (nodes' under' running' : ℕ) where
-        pub gathering-under : (v : ℕ) → follow_at nodes a running o ≡ Under v
+      module _ (o : Op) (next : ℕ) (e : op_at s at ≡ (Ok (o, next))) (a : List ℕ) (places' counts' maxes' : List ℕ) (nodes' under' running' : ℕ) where
+        pub gathering-under : (v : ℕ) → follow_at nodes a running o ≡ (Ok (Under v))
             → places' ≡ places → counts' ≡ counts → maxes' ≡ maxes → nodes' ≡ nodes → under' ≡ under + 1 → running' ≡ v
             → Gathering s places' counts' maxes' nodes' under' running' next
         unfolding parts_from rule.parts_of
         gathering-under v f x₀ x₁ x₂ x₃ x₄ x₅ = rw (x₀, x₁, x₂, x₃, x₄, x₅) (go o e (subst (Found nodes o) f (found nodes a running o)))
           where
-            go : (o : Op) → op_at s at ≡ Got o next → Found nodes o (Under v) → Gathering s places counts maxes nodes (under + 1) v next
+            go : (o : Op) → op_at s at ≡ (Ok (o, next)) → Found nodes o (Ok (Under v)) → Gathering s places counts maxes nodes (under + 1) v next
             go (Node n g f) e w = absurd w
             go (KeyValue k n u m ver st) e w =
                 let p = plain-next s at (KeyValue k n u m ver st) next h e in
@@ -205,12 +207,12 @@ module _ (s : List ℕ) where
                 one_more next v (ap rule.parts_of p)
                 (λ x q y. rw w.1 (carries-max s x q under running m (ops_from s next) (subst (Heading s x q under running) p y)))
 
-        pub gathering-entered : (n last : ℕ) → follow_at nodes a running o ≡ Entered n → last ≡ nodes - 1
+        pub gathering-entered : (n last : ℕ) → follow_at nodes a running o ≡ (Ok (Entered n)) → last ≡ nodes - 1
             → places' ≡ set places nodes at → counts' ≡ set counts last under → maxes' ≡ set maxes last running → nodes' ≡ nodes + 1 → under' ≡ 0 → running' ≡ 0
             → Gathering s places' counts' maxes' nodes' under' running' next
         gathering-entered n last f z x₀ x₁ x₂ x₃ x₄ x₅ = rw (x₀, x₁, x₂, x₃, x₄, x₅, z) (go o e (subst (Found nodes o) f (found nodes a running o)))
           where
-            go : (o : Op) → op_at s at ≡ Got o next → Found nodes o (Entered n)
+            go : (o : Op) → op_at s at ≡ (Ok (o, next)) → Found nodes o (Ok (Entered n))
                 → Gathering s (set places nodes at) (set counts (nodes - 1) under) (set maxes (nodes - 1) running) (nodes + 1) 0 0 next
             go (Node i g f) e w = gathering-node i g f next e w
             go (KeyValue k i u m ver st) e w = absurd w
@@ -220,16 +222,16 @@ module _ (s : List ℕ) where
 
 -- of a refused delta nothing is told
 pub gathered_none : (s at count max : List ℕ) → length at ≡ max_nodes → length count ≡ max_nodes → length max ≡ max_nodes
-    → (why : Refusal) (place : ℕ) → read.Refused why place ≡ rule.delta_read s → AllHeads s at count max
+    → (why : Refusal) (place : ℕ) → (Err (record { why = why; at = place })) ≡ rule.delta_read s → AllHeads s at count max
 gathered_none s at count max p q r why place e =
     record { long_at = p; long_count = q; long_max = r; few = λ ops nodes g. no ops nodes g; heads = λ ops nodes g. no ops nodes g }
   where
-    no : {X : Type 0} (ops nodes : ℕ) → read.Good ops nodes ≡ rule.delta_read s → X
-    no ops nodes g = let z : read.Refused why place ≡ read.Good ops nodes = e ∙ sym g in let y : ◌≡◌ {A = ℕ} 0 1 = cc in absurd (omega arith)
+    no : {X : Type 0} (ops nodes : ℕ) → (Ok (record { ops = ops; nodes = nodes })) ≡ rule.delta_read s → X
+    no ops nodes g = let z : (Err (record { why = why; at = place })) ≡ (Ok (record { ops = ops; nodes = nodes })) = e ∙ sym g in let y : ◌≡◌ {A = ℕ} 0 1 = cc in absurd (omega arith)
 
 -- the last node delta is written down, and all of them are told
 pub gathered : (s places counts maxes : List ℕ) (nodes under running at : ℕ) → Gathering s places counts maxes nodes under running at → nodes ≤ max_nodes
-    → (last : ℕ) → last ≡ nodes - 1 → length s ≤ at → (ops : ℕ) → read.Good ops nodes ≡ rule.delta_read s
+    → (last : ℕ) → last ≡ nodes - 1 → length s ≤ at → (ops : ℕ) → (Ok (record { ops = ops; nodes = nodes })) ≡ rule.delta_read s
     → AllHeads s places (set counts last under) (set maxes last running)
 gathered s places counts maxes nodes under running at inv few last z end ops e =
     record {
@@ -242,5 +244,5 @@ gathered s places counts maxes nodes under running at inv few last z end ops e =
           rw z (gathering-last s places counts maxes nodes under running at inv few end i (omega arith));
     }
   where
-    same : (ops' nodes' : ℕ) → read.Good ops' nodes' ≡ rule.delta_read s → nodes ≡ nodes'
-    same ops' nodes' g = let z : read.Good ops nodes ≡ read.Good ops' nodes' = e ∙ sym g in cc
+    same : (ops' nodes' : ℕ) → (Ok (record { ops = ops'; nodes = nodes' })) ≡ rule.delta_read s → nodes ≡ nodes'
+    same ops' nodes' g = let z : (Ok (record { ops = ops; nodes = nodes })) ≡ (Ok (record { ops = ops'; nodes = nodes' })) = e ∙ sym g in ap (λ (x : DeltaRead). x.nodes) (ok-is _ _ z)

@@ -11,7 +11,7 @@ use lib.Seq.{drop-cons}
 use Rattle.rules.specs.Delta as rule
 use Rattle.rules.specs.declared.Refusal.{Refusal}
 use Rattle.delta_op.specs.declared.Op.{Op}
-use Rattle.delta_op.specs.declared.OpRead.TheVariants.{Got, Bad}
+use Rattle.std.specs.Prelude.{Err, Ok}
 use Rattle.delta_op.specs.Places.{op_of, meant, op_at}
 use Rattle.delta_op.proofs.Reading.{Within, read_at, op-within}
 use Rattle.delta_op.proofs.Plain.{shorter}
@@ -71,17 +71,17 @@ module _ (l : List ℕ) (at : ℕ) (s : rule.Reading) where
       ap (λ (j : ℕ). rule.read_ops j at s (drop at l)) (sym e) ∙ full
       ∙ ap (rule.on_read at s (λ t rest. rule.read_ops k (at + (length (drop at l) - length rest)) t rest)) (read_at l at (omega arith))
 
-  pub at-bad : (r : Refusal) → at < length l → op_at l at ≡ Bad r → read_from l at s ≡ rule.Faulty r at
+  pub at-bad : (r : Refusal) → at < length l → op_at l at ≡ Err r → read_from l at s ≡ rule.Faulty r at
   at-bad r h e = one (length l - at - 1) (omega arith) h ∙ rw e
 
-  module _ (o : Op) (next : ℕ) (h : at < length l) (e : op_at l at ≡ Got o next) where
+  module _ (o : Op) (next : ℕ) (h : at < length l) (e : op_at l at ≡ (Ok (o, next))) where
     pub at-fault : (r : Refusal) → rule.follow s (op_of l o) ≡ rule.Fault r → read_from l at s ≡ rule.Faulty r at
     at-fault r f = one (length l - at - 1) (omega arith) h ∙ rw (e, f)
 
     pub at_next : (t : rule.Reading) → rule.follow s (op_of l o) ≡ rule.Next t → read_from l at s ≡ rule.and_then (op_of l o) (read_from l next t)
     unfolding read_from
     at_next t f =
-        let w : Within (length l) at (Got o next) = subst (Within (length l) at) e (op-within l at) in
+        let w : Within (length l) at (Ok (o, next)) = subst (Within (length l) at) e (op-within l at) in
         let k : ℕ = length l - at - 1 in
         let lo : length l - next ≤ k = omega arith in
         let place : at + (length (drop at l) - length (drop next l)) ≡ next = simp length-drop (omega arith) in

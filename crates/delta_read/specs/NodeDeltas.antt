@@ -5,7 +5,7 @@ use Rattle.fields.specs.Parts.{part}
 use Rattle.fields.specs.Widths.{offset}
 use Rattle.rules.specs.Sizes.{max_nodes}
 use Rattle.rules.specs.Delta as rule
-use Rattle.rules.specs.declared.DeltaRead.TheVariants as read
+use Rattle.std.specs.Prelude.{Ok}
 use Rattle.delta_op.specs.Plain.{ops_from, recs_from}
 
 -- the node deltas from a place on
@@ -44,6 +44,6 @@ pub record AllHeads (s : Bytes) (at count max : List ℕ) : Type 0 where
   pub long_at : length at ≡ max_nodes
   pub long_count : length count ≡ max_nodes
   pub long_max : length max ≡ max_nodes
-  pub few : (ops nodes : ℕ) → read.Good ops nodes ≡ rule.delta_read s → nodes ≤ max_nodes
-  pub heads : (ops nodes : ℕ) → read.Good ops nodes ≡ rule.delta_read s → (i : ℕ) → i < nodes
+  pub few : (ops nodes : ℕ) → (Ok (record { ops = ops; nodes = nodes })) ≡ rule.delta_read s → nodes ≤ max_nodes
+  pub heads : (ops nodes : ℕ) → (Ok (record { ops = ops; nodes = nodes })) ≡ rule.delta_read s → (i : ℕ) → i < nodes
       → Head s (get_or (parts_from s 0) i no_part) (get_or at i 0) (get_or count i 0) (get_or max i 0)

@@ -2,7 +2,7 @@
 // follow those before it (`delta_follow`). What is answered is what the definitions of `rules` say.
 #![tactic(auto)]
 
-ghost use Rattle.std.specs.Prelude.{◌≡◌, length};
+ghost use Rattle.std.specs.Prelude.{◌≡◌, Err, length};
 ghost use Rattle.rules.specs.Answers.{read_told};
 ghost use Rattle.rules.specs.Given.{Says};
 ghost use Rattle.rules.specs.Sizes.{max_nodes};
@@ -10,14 +10,13 @@ ghost use Rattle.rules.specs.Delta.{delta_read};
 ghost use Rattle.delta_read.specs.NodeDeltas.{AllHeads};
 
 use delta_follow::Followed;
-use delta_op::OpRead;
-use rules::{DeltaRead, Refusal, sizes};
+use rules::{DeltaFault, DeltaRead, Refusal, sizes};
 
 // A delta's verdict and, where it is accepted, each of its node deltas: where its Node stands, how many operations stand behind that Node at most, and
 // the running max at their end.
 #[derive(Clone, Copy)]
 pub struct Heads {
-    pub read: DeltaRead,
+    pub read: Result<DeltaRead, DeltaFault>,
     pub at: [usize; sizes::NODES],
     pub count: [usize; sizes::NODES],
     pub max: [u64; sizes::NODES],
@@ -25,11 +24,11 @@ pub struct Heads {
 
 // A delta that is refused.
 fn refused(why: Refusal, at: usize) -> Heads
-    ensures { (result.read ≡ DeltaRead.Refused why at)
+    ensures { (result.read ≡ Err (record { why = why; at = at }))
         × (length result.at ≡ max_nodes) × (length result.count ≡ max_nodes) × (length result.max ≡ max_nodes) }
 {
     Heads {
-        read: DeltaRead::Refused { why, at },
+        read: Err(DeltaFault { why, at }),
         at: [0usize; sizes::NODES],
         count: [0usize; sizes::NODES],
         max: [0u64; sizes::NODES],
@@ -55,37 +54,36 @@ pub fn read_heads(delta: &[u8]) -> Heads
     let mut first: usize = 0;
     let mut ops: usize = 0;
     let mut at: usize = 0;
+    // An operation is as long as its texts, so the place goes by variable steps.
     while at < delta.len() {
-        let read = delta_op::read_op(delta, at);
-        match read {
-            OpRead::Bad(why) => return refused(why, at),
-            OpRead::Got { op, next } => {
-                let followed = delta_follow::follow(&seen, nodes, running, op);
-                match followed {
-                    Followed::Fault(why) => return refused(why, at),
-                    Followed::Entered(number) => {
-                        counts[last] = ops - first;
-                        maxes[last] = running;
-                        seen[nodes] = number;
-                        places[nodes] = at;
-                        last = nodes;
-                        first = ops + 1;
-                        nodes += 1;
-                        running = 0;
-                    }
-                    Followed::Under(version) => {
-                        running = version;
-                    }
-                }
-                ops += 1;
-                at = next;
+        let (op, next) = match delta_op::read_op(delta, at) {
+            Ok(read) => read,
+            Err(why) => return refused(why, at),
+        };
+        let followed = match delta_follow::follow(&seen, nodes, running, op) {
+            Ok(followed) => followed,
+            Err(fault) => return refused(fault, at),
+        };
+        match followed {
+            Followed::Entered(number) => {
+                counts[last] = ops - first;
+                maxes[last] = running;
+                seen[nodes] = number;
+                places[nodes] = at;
+                last = nodes;
+                first = ops + 1;
+                nodes += 1;
+                running = 0;
             }
+            Followed::Under(version) => running = version,
         }
+        ops += 1;
+        at = next;
     }
     counts[last] = ops - first;
     maxes[last] = running;
     Heads {
-        read: DeltaRead::Good { ops, nodes },
+        read: Ok(DeltaRead { ops, nodes }),
         at: places,
         count: counts,
         max: maxes,
@@ -93,7 +91,7 @@ pub fn read_heads(delta: &[u8]) -> Heads
 }
 
 // How many operations and nodes the delta holds, or why it is refused and where the tag of the faulty operation stands. One pass.
-pub fn read_delta(delta: &[u8]) -> DeltaRead
+pub fn read_delta(delta: &[u8]) -> Result<DeltaRead, DeltaFault>
     ensures { Says read_told (delta_read delta.now) result }
 {
     let heads = read_heads(delta);

@@ -13,7 +13,8 @@ use Rattle.rules.specs.Given.{Given}
 use Rattle.rules.specs.Apply.{Ways, ways_in, apply}
 use Rattle.rules.specs.Whole.{Whole, with_table, encode_whole, decode_whole, obeys_whole, valid_whole}
 use Rattle.rules.specs.Lent.{TableAndList, lent_apply, stored_apply}
-use Rattle.rules.specs.declared.Applied.{Applied}
+use Rattle.std.specs.Prelude.{Result}
+use Rattle.rules.specs.declared.DeltaFault.{DeltaFault}
 use Rattle.rules.proofs.Calls.{apply-keeps}
 use Rattle.rules.proofs.Memories.{whole-profile, whole-table, same_nodes}
 use Rattle.rules.proofs.Refusing.{whole-bytes}
@@ -38,15 +39,15 @@ module _ (w : Whole) (o : obeys_whole w ≡ true) (now : ℕ) (fits : now < numb
   pub then-apply : (b c : List ℕ) → AreBytes b → (l k : List ℕ)
       → lent_apply c now k (lent_apply b now l (encode_whole w)).lent.table ≡ stored_apply w (apply ways c now (apply ways b now w.table l).table k)
   then-apply b c are l k =
-      ap (λ (g : Given Applied TableAndList). lent_apply c now k g.lent.table) (apply-whole w o b now l)
+      ap (λ (g : Given (Result ℕ DeltaFault) TableAndList). lent_apply c now k g.lent.table) (apply-whole w o b now l)
       ∙ apply-whole (with_table (apply ways b now w.table l).table w) (kept b are l) c now k
 
 -- of three calls, the last of them being the later one
-abbrev Told : (whole one two last : Given Applied TableAndList) → Type 0
+abbrev Told : (whole one two last : Given (Result ℕ DeltaFault) TableAndList) → Type 0
 Told w one two last = AsUncut w.answer one.answer two.answer w.lent.list one.lent.list two.lent.list w.lent.table last.lent.table
 
 -- tables that are the same have the same bytes
-in_bytes : (w : Whole) {x y z : Applied} {l l₁ l₂ : List ℕ} {u v : Table} → AsUncut x y z l l₁ l₂ u v → AsUncut x y z l l₁ l₂ (encode_whole (with_table u w)) (encode_whole (with_table v w))
+in_bytes : (w : Whole) {x y z : (Result ℕ DeltaFault)} {l l₁ l₂ : List ℕ} {u v : Table} → AsUncut x y z l l₁ l₂ u v → AsUncut x y z l l₁ l₂ (encode_whole (with_table u w)) (encode_whole (with_table v w))
 in_bytes w a =
     record { n₁ = a.n₁; n₂ = a.n₂; first_is = a.first_is; second_is = a.second_is; whole_is = a.whole_is; answers = a.answers; table_is = ap (λ (t : Table). encode_whole (with_table t w)) a.table_is }
 

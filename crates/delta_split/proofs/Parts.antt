@@ -22,7 +22,7 @@ use Rattle.rules.specs.Delta.{Op, NodeOp, KeyValueOp, SetMaxVersionOp, Ops, Good
 use Rattle.rules.specs.Apply.{ApplyOutcome, Lawful, Stream, Taking, Ways, apply, apply_each, apply_node, apply_ops, codes, on_node, ways_in}
 use Rattle.rules.specs.Profile.{Kind}
 use Rattle.rules.specs.declared.NodeAnswer.{NodeAnswer}
-use Rattle.rules.specs.declared.Applied.TheVariants as applied
+use Rattle.std.specs.Prelude.{Ok}
 use Rattle.rules.proofs.Deltas.{AllSmall, Chain, read-delta, delta-is}
 use Rattle.profiles.proofs.Reading.{delta-formed, delta-plain, form-first, form-second}
 use Rattle.delta_split.specs.Split.{node_tags, cut_places, wanted, in_order, reversed, given, AsUncut, FromNode, Cuttable}
@@ -95,7 +95,7 @@ codes-append (a ∷ l) m = ap₂ (λ (c : ℕ) (r : List ℕ). c ∷ r) refl (co
 
 -- the node deltas are taken, and the answers told
 abbrev pub accepted : Stream → ℕ → List ℕ → ApplyOutcome
-accepted s n l = record { answer = applied.Nodes n; table = s.table; list = put 0 (codes s.answers) l }
+accepted s n l = record { answer = Ok n; table = s.table; list = put 0 (codes s.answers) l }
 
 pub call-accepted : (ways : Ways) (b : List ℕ) (ops : List Op) (now : ℕ) (t : Table) (l : List ℕ) → ways.reads b ≡ Good ops → length (parts_of ops) ≤ length l
     → apply ways b now t l ≡ accepted (apply_each (apply_node ways now) (parts_of ops) t) (length (parts_of ops)) l
@@ -106,7 +106,7 @@ call-accepted ways b ops now t l r h =
 
 -- as many as there are node deltas, from the front of the list
 told : (take : Taking) (xs : List Part) (t : Table) (l : List ℕ) → length xs ≤ length l
-    → given (applied.Nodes (length xs)) (put 0 (codes (apply_each take xs t).answers) l) ≡ codes (apply_each take xs t).answers
+    → given (Ok (length xs)) (put 0 (codes (apply_each take xs t).answers) l) ≡ codes (apply_each take xs t).answers
 told take xs t l h =
     let c : List ℕ = codes (apply_each take xs t).answers in
     let e : length c ≡ length xs = codes-long (apply_each take xs t).answers ∙ each_long take xs t in
@@ -163,7 +163,7 @@ module _ (take : Taking) (xs ys : List Part) (t : Table) (list list₁ list₂ :
         n₂ = length ys;
         first_is = refl;
         second_is = refl;
-        whole_is = ap applied.Nodes (length-append xs ys);
+        whole_is = ap Ok (length-append xs ys);
         answers =
             told take (xs ++ ys) t list h
             ∙ ap (λ (s : Stream). codes s.answers) all

@@ -25,7 +25,7 @@ use Rattle.rules.specs.declared.Party.TheVariants.{Building, Metering}
 use Rattle.rules.specs.declared.Profile.{Profile}
 use Rattle.rules.specs.declared.Profile.TheVariants.{Free, Meter, Shared}
 use Rattle.rules.specs.declared.NodeAnswer.TheVariants as node
-use Rattle.rules.specs.declared.Applied.TheVariants as applied
+use Rattle.std.specs.Prelude.{Err, Ok}
 use Rattle.rules.specs.declared.Refusal.TheVariants.{NoPlace}
 use Rattle.delta_split.specs.Split.{AsUncut, Cuttable, Roomy, cut_places}
 use Rattle.delta_split.specs.Times.{RoomTimeless, in_order_at, reversed_at, startless, timeless, timeless_node, unstarted}
@@ -126,10 +126,10 @@ untimed o = record { answer = o.answer; table = timeless o.table; list = o.list 
 
 -- a call that has answer places, and one that has not
 abbrev told : ℕ → List ℕ → Stream → ApplyOutcome
-told n l s = record { answer = applied.Nodes n; table = s.table; list = put 0 (codes s.answers) l }
+told n l s = record { answer = Ok n; table = s.table; list = put 0 (codes s.answers) l }
 
 abbrev placeless : List ℕ → Table → ApplyOutcome
-placeless l t = record { answer = applied.Refused NoPlace 0; table = t; list = l }
+placeless l t = record { answer = (Err (record { why = NoPlace; at = 0 })); table = t; list = l }
 
 module _ (ways : Ways) (room : RoomTimeless ways) where
   each_bare : (now : ℕ) (xs : List Part) (t : Table) → timeless_stream (apply_each (apply_node ways now) xs t) ≡ apply_each (apply_node ways 0) xs (timeless t)

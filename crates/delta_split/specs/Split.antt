@@ -1,5 +1,5 @@
 -- Two datagrams for one (ticket 14 of document 02). A gateway cuts a delta at the start of a Node operation and sends what stands before it and what stands
--- from it on. Applied one after the other, in either order and at the same time of receipt, the two do what the uncut delta does. The theorems are in
+-- from it on. (Result ℕ DeltaFault) one after the other, in either order and at the same time of receipt, the two do what the uncut delta does. The theorems are in
 -- proofs/Parts, of tables in any ways that allow it, and in proofs/LentParts, of lent bytes in any mode.
 use Rattle.std.specs.Prelude.{ℕ, ◌+◌, ◌≤◌, ◌≡◌, List, [], ◌∷◌, ◌++◌, length, take, drop}
 use Rattle.fields.specs.Numbers.{Bytes, AreBytes}
@@ -8,8 +8,8 @@ use Rattle.rules.specs.Delta.{Op, NodeOp, KeyValueOp, SetMaxVersionOp, Ops, Good
 use Rattle.rules.specs.Given.{Given}
 use Rattle.rules.specs.Apply.{Ways, ApplyOutcome, apply}
 use Rattle.rules.specs.Lent.{TableAndList, lent_apply}
-use Rattle.rules.specs.declared.Applied.{Applied}
-use Rattle.rules.specs.declared.Applied.TheVariants.{Nodes, Refused}
+use Rattle.std.specs.Prelude.{Err, Ok, Result}
+use Rattle.rules.specs.declared.DeltaFault.{DeltaFault}
 
 -- ---- where a delta may be cut
 
@@ -51,29 +51,29 @@ abbrev pub reversed : (ways : Ways) (bytes : Bytes) (place now : ℕ) (table : T
 reversed ways b place now t l₁ l₂ =
     record { first = apply ways (take place b) now (apply ways (drop place b) now t l₂).table l₁; second = apply ways (drop place b) now t l₂ }
 
-abbrev pub lent_in_order : (bytes : Bytes) (place now : ℕ) (table list₁ list₂ : Bytes) → Both (Given Applied TableAndList)
+abbrev pub lent_in_order : (bytes : Bytes) (place now : ℕ) (table list₁ list₂ : Bytes) → Both (Given (Result ℕ DeltaFault) TableAndList)
 lent_in_order b place now t l₁ l₂ =
     record { first = lent_apply (take place b) now l₁ t; second = lent_apply (drop place b) now l₂ (lent_apply (take place b) now l₁ t).lent.table }
 
-abbrev pub lent_reversed : (bytes : Bytes) (place now : ℕ) (table list₁ list₂ : Bytes) → Both (Given Applied TableAndList)
+abbrev pub lent_reversed : (bytes : Bytes) (place now : ℕ) (table list₁ list₂ : Bytes) → Both (Given (Result ℕ DeltaFault) TableAndList)
 lent_reversed b place now t l₁ l₂ =
     record { first = lent_apply (take place b) now l₁ (lent_apply (drop place b) now l₂ t).lent.table; second = lent_apply (drop place b) now l₂ t }
 
 -- ---- what is the same
 
 -- the answers that a call gave: as many as it says, from the front of its list
-abbrev pub given : (applied : Applied) (list : Bytes) → Bytes
-given (Nodes n) l = take n l
-given (Refused r at) l = []
+abbrev pub given : (applied : (Result ℕ DeltaFault)) (list : Bytes) → Bytes
+given (Ok n) l = take n l
+given (Err f) l = []
 
 -- Both parts are accepted, as the uncut delta is; the answers to the first and then those to the second are its answers, node by node; and what both leave is
 -- what it leaves.
-pub record AsUncut {A : Type 0} (whole first second : Applied) (list list₁ list₂ : Bytes) (uncut after : A) : Type 0 where
+pub record AsUncut {A : Type 0} (whole first second : (Result ℕ DeltaFault)) (list list₁ list₂ : Bytes) (uncut after : A) : Type 0 where
   pub n₁ : ℕ
   pub n₂ : ℕ
-  pub first_is : first ≡ Nodes n₁
-  pub second_is : second ≡ Nodes n₂
-  pub whole_is : whole ≡ Nodes (n₁ + n₂)
+  pub first_is : first ≡ Ok n₁
+  pub second_is : second ≡ Ok n₂
+  pub whole_is : whole ≡ Ok (n₁ + n₂)
   pub answers : given whole list ≡ given first list₁ ++ given second list₂
   pub table_is : after ≡ uncut
 

@@ -17,7 +17,7 @@ use Rattle.rules.specs.Delta.{beside_texts, byte_width, length_width, max_op_wid
 use Rattle.rules.specs.declared.Status.{Status}
 use Rattle.rules.proofs.Ops.{one_byte, status-byte}
 use Rattle.delta_write.specs.Written.{key_value, write_op}
-use Rattle.delta_write.specs.declared.Wrote.TheVariants as wrote
+use Rattle.std.specs.Prelude.{None, Some}
 
 -- ---- the operation as its fields, written from left to right
 
@@ -89,13 +89,13 @@ key-value-fields k v n s l a b c d e h p q r u w =
 
 -- ---- what is promised
 
-pub fits : (o : Op) (n : ℕ) (l a : Bytes) → size_of o ≡ n → n ≤ length l → a ≡ put 0 (op_bytes o) l → Gives (write_op o l) (wrote.Bytes n) a
+pub fits : (o : Op) (n : ℕ) (l a : Bytes) → size_of o ≡ n → n ≤ length l → a ≡ put 0 (op_bytes o) l → Gives (write_op o l) (Some n) a
 unfolding write_op
 fits o n l a e h p =
     let t = le-leb (size_of o) (length l) (omega arith) in
     (rw (t, e), rw t p)
 
-pub no-fit : (o : Op) (n : ℕ) (l : Bytes) → size_of o ≡ n → length l < n → Gives (write_op o l) wrote.NoFit l
+pub no-fit : (o : Op) (n : ℕ) (l : Bytes) → size_of o ≡ n → length l < n → Gives (write_op o l) None l
 unfolding write_op
 no-fit o n l e h =
     let t = lt-leb (size_of o) (length l) (omega arith) in

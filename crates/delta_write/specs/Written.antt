@@ -7,11 +7,10 @@ use Rattle.fields.specs.Parts.{put}
 use Rattle.rules.specs.Given.{Given, given}
 use Rattle.rules.specs.Delta.{Op, KeyValueOp, op_bytes, size_of}
 use Rattle.rules.specs.declared.Status.{Status}
-use Rattle.delta_write.specs.declared.Wrote.{Wrote}
-use Rattle.delta_write.specs.declared.Wrote.TheVariants as wrote
+use Rattle.std.specs.Prelude.{None, Option, Some}
 
-unfoldable pub write_op : (op : Op) (datagram : Bytes) → Given Wrote Bytes
-write_op o l = pick (leb (size_of o) (length l)) (given (wrote.Bytes (size_of o)) (put 0 (op_bytes o) l)) (given wrote.NoFit l)
+unfoldable pub write_op : (op : Op) (datagram : Bytes) → Given (Option ℕ) Bytes
+write_op o l = pick (leb (size_of o) (length l)) (given (Some (size_of o)) (put 0 (op_bytes o) l)) (given None l)
 
 abbrev pub key_value : (key value : Bytes) (version : ℕ) (status : Status) → Op
 key_value k v n s = KeyValueOp (record { key = k; value = v; version = n; status = s })

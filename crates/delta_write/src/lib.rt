@@ -10,13 +10,6 @@ ghost use Rattle.delta_write.specs.Written.{key_value, write_op};
 
 use rules::{Status, wire};
 
-// How many bytes an operation took, or that it does not fit.
-#[derive(Clone, Copy)]
-pub enum Wrote {
-    Bytes(usize),
-    NoFit,
-}
-
 // Whether a record with a key and a value of these lengths fits into so many bytes. No sum of lengths is made that could wrap.
 fn record_fits(room: usize, keylen: usize, valuelen: usize) -> bool
     ensures { result ≡ leb (beside_texts + keylen + valuelen) room }
@@ -41,17 +34,17 @@ fn write_text(datagram: &mut [u8], at: usize, text: &[u8])
 }
 
 // A Node operation.
-pub fn write_node(datagram: &mut [u8], number: u64, last_gc: u64, from: u64) -> Wrote
+pub fn write_node(datagram: &mut [u8], number: u64, last_gc: u64, from: u64) -> Option<usize>
     ensures { Gives (write_op (NodeOp number last_gc from) datagram.old) result datagram.new }
 {
     if datagram.len() < wire::NODE_WIDTH {
-        return Wrote::NoFit;
+        return None;
     }
     fields::write_byte(datagram, 0, wire::NODE);
     fields::write_u64(datagram, wire::NODE_NUMBER, number);
     fields::write_u64(datagram, wire::NODE_LAST_GC, last_gc);
     fields::write_u64(datagram, wire::NODE_FROM, from);
-    Wrote::Bytes(wire::NODE_WIDTH)
+    Some(wire::NODE_WIDTH)
 }
 
 // A record, where there is room for it. Of the lengths the two lowest bytes are written.
@@ -75,25 +68,25 @@ pub fn write_key_value(
     value: &[u8],
     version: u64,
     status: Status,
-) -> Wrote
+) -> Option<usize>
     ensures { Gives (write_op (key_value key.now value.now version status) datagram.old) result datagram.new }
 {
     if record_fits(datagram.len(), key.len(), value.len()) {
         let size = wire::BESIDE_TEXTS + key.len() + value.len();
         store_key_value(datagram, key, value, version, status);
-        return Wrote::Bytes(size);
+        return Some(size);
     }
-    Wrote::NoFit
+    None
 }
 
 // A SetMaxVersion operation.
-pub fn write_set_max_version(datagram: &mut [u8], max: u64) -> Wrote
+pub fn write_set_max_version(datagram: &mut [u8], max: u64) -> Option<usize>
     ensures { Gives (write_op (SetMaxVersionOp max) datagram.old) result datagram.new }
 {
     if datagram.len() < wire::MAX_WIDTH {
-        return Wrote::NoFit;
+        return None;
     }
     fields::write_byte(datagram, 0, wire::SET_MAX_VERSION);
     fields::write_u64(datagram, wire::MAX, max);
-    Wrote::Bytes(wire::MAX_WIDTH)
+    Some(wire::MAX_WIDTH)
 }

@@ -34,23 +34,21 @@ use Rattle.rules.specs.Node.{Deleting, DeletingAfterTtl, Node, Rec, act, beats, 
 use Rattle.rules.specs.Party.{alone}
 use Rattle.rules.specs.Profile.{kind, meter_key, meter_value, numeral, profile_obeys, read_delta_as, read_ops_as, smaller, table_formed, total_key}
 use Rattle.rules.specs.Table.{Entry, Table, among, differ, entry_obeys, keys_rise, node_obeys, node_of, numbers_of, obeys, rec_obeys, rising, set_node, versions}
-use Rattle.rules.specs.declared.Answer.{Answer}
-use Rattle.rules.specs.declared.Answer.TheVariants as plain
-use Rattle.rules.specs.declared.Remembered.TheVariants as remembered
-use Rattle.rules.specs.declared.Applied.{Applied}
-use Rattle.rules.specs.declared.Applied.TheVariants as applied
-use Rattle.rules.specs.declared.Computed.{Computed}
-use Rattle.rules.specs.declared.Computed.TheVariants as computed
-use Rattle.rules.specs.declared.Listed.{Listed}
-use Rattle.rules.specs.declared.Listed.TheVariants as listed
-use Rattle.rules.specs.declared.Offered.TheVariants as offered
+use Rattle.std.specs.Prelude.{Err, Result}
+use Rattle.exchange.specs.declared.Exchanged.{Exchanged}
+use Rattle.exchange_ask.specs.declared.Stopped.{Stopped}
+use Rattle.overrides.specs.declared.RefusedOver.{RefusedOver}
+use Rattle.plan.specs.declared.NotSent.{NotSent}
+use Rattle.rules.specs.declared.DeltaFault.{DeltaFault}
+use Rattle.rules.specs.declared.Refusal.{Refusal}
+use Rattle.rules.specs.declared.Sent.{Sent}
+use Rattle.rules.specs.Results.{done}
+use Rattle.plan.specs.declared.NotSent.TheVariants as not_sent
 use Rattle.rules.specs.declared.Profile.{Profile}
 use Rattle.rules.specs.declared.Party.TheVariants.{Nobody}
 use Rattle.rules.specs.declared.Profile.TheVariants.{Free, Meter, Shared}
 use Rattle.rules.specs.declared.Refusal.TheVariants.{BadPeer, BadTable, NobodyPresent}
 use Rattle.rules.specs.declared.Status.TheVariants as status
-use Rattle.rules.specs.declared.Written.{Written}
-use Rattle.rules.specs.declared.Written.TheVariants as written
 use Rattle.rules.proofs.Calls.{none-obeys}
 use Rattle.rules.proofs.Formed.{empty-formed, free-formed}
 use Rattle.rules.proofs.Obeys.{among_in}
@@ -66,17 +64,12 @@ use Rattle.overrides.specs.declared.Which.TheVariants as which
 use Rattle.overrides.proofs.Valid.{length-stops, valid-by-node}
 use Rattle.over_find.specs.Over.{found_over}
 use Rattle.over_find.specs.Told.{found_over_told}
-use Rattle.over_find.specs.declared.FoundOver.TheVariants as over
 use Rattle.over_list.specs.Merged as merging
 use Rattle.over_list.specs.Merged.{list_over}
 use Rattle.over_list.specs.Told.{listed_over_told}
-use Rattle.over_list.specs.declared.ListedOver.{ListedOver}
-use Rattle.over_list.specs.declared.ListedOver.TheVariants as merged
 use Rattle.grid.specs.Grid.{Grid, add_column, columns, drop_column, max_peers, new_grid, somebody, take_out, tell_row}
 use Rattle.grid.specs.GridLayout.{decode_grid, encode_grid, grid_width, valid_grid}
 use Rattle.grid.specs.LentGrid.{GridAndTable, both as beside, carefully_removed, fits_table, grid_on, least_in, least_told, lent_careful, lent_column_in, lent_column_out, lent_least, lent_new_grid, lent_seen, lent_take_out, lent_tell, seen_in, seen_told, tell_on, valid_both}
-use Rattle.grid.specs.declared.Least.TheVariants as least
-use Rattle.grid.specs.declared.Seen.TheVariants as seen
 use Rattle.grid.proofs.GridBytes.{length-grid, valid-long}
 use Rattle.grid_kept.proofs.Encoded.{decode-encode as decode-encode-grid}
 use Rattle.grid_kept.proofs.Keeps.{tell-sound}
@@ -85,14 +78,8 @@ use Rattle.grid_kept.proofs.Sound.{Sound, sound-valid}
 use Rattle.nodes.specs.New.{lent_made}
 use Rattle.lookup.specs.Lookup.{find_as, find_rec}
 use Rattle.lookup.specs.Told.{found_told}
-use Rattle.lookup.specs.declared.Found.TheVariants as found
 use Rattle.inspect.specs.Look.{element_at, front_as, node_count, node_header, node_number, node_rows_as, read_key, read_record_as, record_by_key_as, record_count_as, record_of_as}
 use Rattle.inspect.specs.Told.{count_told, node_header_told, node_number_told, record_read_told, rows_told}
-use Rattle.inspect.specs.declared.Count.TheVariants as count
-use Rattle.inspect.specs.declared.NodeHeader.TheVariants as header
-use Rattle.inspect.specs.declared.NodeNumber.TheVariants as number
-use Rattle.inspect.specs.declared.RecordRead.TheVariants as rec
-use Rattle.inspect.specs.declared.Rows.TheVariants as rows
 use Rattle.prefix.specs.Rows.{prefix_rows_as}
 use Rattle.inspect_text.specs.Texts.{text_found_as}
 use Rattle.inspect_text.specs.declared.Text.TheVariants as text
@@ -104,15 +91,10 @@ use Rattle.answers.specs.Shown.{entry_told}
 use Rattle.compute.specs.Asking.{asked_of}
 use Rattle.exchange.specs.Exchanging.{Lending, after_asking, exchanged_told, lending, lent_exchange, rooms_of}
 use Rattle.exchange_ask.specs.Asking.{forms_fit, ready_for, ready_on, rooms_for, taking_for}
-use Rattle.exchange.specs.declared.Exchanged.{Exchanged}
 use Rattle.exchange_ask.specs.declared.Step.TheVariants.{Delta, Digest}
-use Rattle.exchange_ask.specs.declared.Ready.{Ready}
-use Rattle.exchange_ask.specs.declared.Ready.TheVariants as ready
 use Rattle.exchange.proofs.Refusing.{is-ready, ready-done}
 use Rattle.plan.specs.Faults.{judge, judge_from, judge_plan, judged_told}
 use Rattle.plan.specs.Plan.{accepts, compute_plan, delta_by, lines_fit, plan_ops}
-use Rattle.plan.specs.declared.Judged.{Judged}
-use Rattle.plan.specs.declared.Judged.TheVariants as judged
 use Rattle.demand1.specs.Calls as calls
 
 -- ---- one call for each number
@@ -296,7 +278,7 @@ new-tables : AllShown calls.NewTable (0 ∷ 14 ∷ [])
 unfolding calls.leaves lent_made answer_told
 new-tables = (
   calls.new-table (lent []) mode.Plain Free,
-  ap (λ (b : Bool). (answer_told (pick b (given plain.Done (lent_new (kind mode.Plain Free))) (given (plain.Refused BadTable) (lent []))).answer).number)
+  ap (λ (b : Bool). (answer_told (pick b (given done (lent_new (kind mode.Plain Free))) (given (Err BadTable) (lent []))).answer).number)
       (eq-eqb (length (lent [])) whole_width (length_whole (whole []))),
 )
     and (calls.new-table [] mode.Plain Free, refl)
@@ -305,17 +287,17 @@ new-tables = (
 added : AllShown calls.AddNode (0 ∷ 14 ∷ 4 ∷ [])
 unfolding calls.leaves answer_told add_whole add among numbers_of nodes
 added =
-    (calls.add-node (lent []) seven, whole-good answer_told (plain.Refused BadTable) (add_whole 7) [] none-obeys 0 refl)
-    and (calls.add-node [] seven, whole-bad answer_told (plain.Refused BadTable) (add_whole 7) 14 refl)
-    and (calls.add-node (lent crowded) nine, whole-good answer_told (plain.Refused BadTable) (add_whole 9) crowded crowded-obeys 4 refl)
+    (calls.add-node (lent []) seven, whole-good answer_told (Err BadTable) (add_whole 7) [] none-obeys 0 refl)
+    and (calls.add-node [] seven, whole-bad answer_told (Err BadTable) (add_whole 7) 14 refl)
+    and (calls.add-node (lent crowded) nine, whole-good answer_told (Err BadTable) (add_whole 9) crowded crowded-obeys 4 refl)
     and no_more
 
 removed : AllShown calls.RemoveNode (0 ∷ 14 ∷ 2 ∷ [])
 unfolding calls.leaves answer_told remove_whole remove_node among numbers_of
 removed =
-    (calls.remove-node (lent newly) seven, whole-good answer_told (plain.Refused BadTable) (remove_whole 7) newly newly-obeys 0 refl)
-    and (calls.remove-node [] seven, whole-bad answer_told (plain.Refused BadTable) (remove_whole 7) 14 refl)
-    and (calls.remove-node (lent []) seven, whole-good answer_told (plain.Refused BadTable) (remove_whole 7) [] none-obeys 2 refl)
+    (calls.remove-node (lent newly) seven, whole-good answer_told (Err BadTable) (remove_whole 7) newly newly-obeys 0 refl)
+    and (calls.remove-node [] seven, whole-bad answer_told (Err BadTable) (remove_whole 7) 14 refl)
+    and (calls.remove-node (lent []) seven, whole-good answer_told (Err BadTable) (remove_whole 7) [] none-obeys 2 refl)
     and no_more
 
 -- nothing is remembered in a new table
@@ -325,12 +307,12 @@ asked = (
   calls.last-heartbeat (lent []) seven,
   let w : Whole = whole [] in
       let o = whole-obeys [] none-obeys in
-      ap (λ (b : Bool). (remembered_told (pick b (remembered_as (heartbeat_of 7 (decode_whole (lent [])).memory)) (remembered.Refused BadTable))).number) (valid-encode-whole w o)
+      ap (λ (b : Bool). (remembered_told (pick b (remembered_as (heartbeat_of 7 (decode_whole (lent [])).memory)) (Err BadTable))).number) (valid-encode-whole w o)
       ∙ ap (λ (u : Whole). (remembered_told (remembered_as (heartbeat_of 7 u.memory))).number) (decode-encode-whole w o),
 )
     and (
       calls.last-heartbeat [] seven,
-      ap (λ (b : Bool). (remembered_told (pick b (remembered_as (heartbeat_of 7 (decode_whole []).memory)) (remembered.Refused BadTable))).number) none-valid,
+      ap (λ (b : Bool). (remembered_told (pick b (remembered_as (heartbeat_of 7 (decode_whole []).memory)) (Err BadTable))).number) none-valid,
     )
     and no_more
 
@@ -339,47 +321,47 @@ asked = (
 writes : AllShown calls.Write (0 ∷ 14 ∷ 10 ∷ 2 ∷ 1 ∷ 17 ∷ 19 ∷ 18 ∷ 5 ∷ 6 ∷ [])
 unfolding calls.leaves answer_told write_as call_as call node_of set_node decide wish act find same_bytes zeros records meter_key meter_value smaller numeral all
 writes =
-    (calls.write (lent newly) [] [] seven under-set seven Nobody, as-good answer_told (plain.Refused BadTable) (λ p. write_as p Nobody 0 [] 7 7 []) (whole newly) (whole-obeys newly newly-obeys) 0 refl)
-    and (calls.write [] [] [] seven under-set seven Nobody, on-bad answer_told (plain.Refused BadTable) (write_as (decode_whole []).kind.profile Nobody 0 [] 7 7 []) 14 refl)
-    and (calls.write (lent []) [] [] seven seven seven Nobody, as-good answer_told (plain.Refused BadTable) (λ p. write_as p Nobody 7 [] 7 7 []) (whole []) (whole-obeys [] none-obeys) 10 refl)
-    and (calls.write (lent []) [] [] seven under-ttl seven Nobody, as-good answer_told (plain.Refused BadTable) (λ p. write_as p Nobody 2 [] 7 7 []) (whole []) (whole-obeys [] none-obeys) 2 refl)
-    and (calls.write (lent newly) (zeros 33) [] seven under-ttl seven Nobody, as-good answer_told (plain.Refused BadTable) (λ p. write_as p Nobody 2 [] 7 7 (zeros 33)) (whole newly) (whole-obeys newly newly-obeys) 1 refl)
-    and (calls.write (encode_whole metered) [] [] seven under-ttl seven Nobody, as-good answer_told (plain.Refused BadTable) (λ p. write_as p Nobody 2 [] 7 7 []) metered metered-obeys 17 refl)
-    and (calls.write (encode_whole (shared newly)) [] [] seven under-ttl seven Nobody, as-good answer_told (plain.Refused BadTable) (λ p. write_as p Nobody 2 [] 7 7 []) (shared newly) shared-newly-obeys 19 refl)
-    and (calls.write (encode_whole metered) total_key (52 ∷ []) seven under-set seven Nobody, as-good answer_told (plain.Refused BadTable) (λ p. write_as p Nobody 0 (52 ∷ []) 7 7 total_key) metered metered-obeys 18 refl)
-    and (calls.write (lent packed) [] [] seven under-set seven Nobody, as-good answer_told (plain.Refused BadTable) (λ p. write_as p Nobody 0 [] 7 7 []) (whole packed) (whole-obeys packed packed-obeys) 5 refl)
-    and (calls.write (lent ended) [] [] seven under-ttl seven Nobody, as-good answer_told (plain.Refused BadTable) (λ p. write_as p Nobody 2 [] 7 7 []) (whole ended) (whole-obeys ended ended-obeys) 6 refl)
+    (calls.write (lent newly) [] [] seven under-set seven Nobody, as-good answer_told (Err BadTable) (λ p. write_as p Nobody 0 [] 7 7 []) (whole newly) (whole-obeys newly newly-obeys) 0 refl)
+    and (calls.write [] [] [] seven under-set seven Nobody, on-bad answer_told (Err BadTable) (write_as (decode_whole []).kind.profile Nobody 0 [] 7 7 []) 14 refl)
+    and (calls.write (lent []) [] [] seven seven seven Nobody, as-good answer_told (Err BadTable) (λ p. write_as p Nobody 7 [] 7 7 []) (whole []) (whole-obeys [] none-obeys) 10 refl)
+    and (calls.write (lent []) [] [] seven under-ttl seven Nobody, as-good answer_told (Err BadTable) (λ p. write_as p Nobody 2 [] 7 7 []) (whole []) (whole-obeys [] none-obeys) 2 refl)
+    and (calls.write (lent newly) (zeros 33) [] seven under-ttl seven Nobody, as-good answer_told (Err BadTable) (λ p. write_as p Nobody 2 [] 7 7 (zeros 33)) (whole newly) (whole-obeys newly newly-obeys) 1 refl)
+    and (calls.write (encode_whole metered) [] [] seven under-ttl seven Nobody, as-good answer_told (Err BadTable) (λ p. write_as p Nobody 2 [] 7 7 []) metered metered-obeys 17 refl)
+    and (calls.write (encode_whole (shared newly)) [] [] seven under-ttl seven Nobody, as-good answer_told (Err BadTable) (λ p. write_as p Nobody 2 [] 7 7 []) (shared newly) shared-newly-obeys 19 refl)
+    and (calls.write (encode_whole metered) total_key (52 ∷ []) seven under-set seven Nobody, as-good answer_told (Err BadTable) (λ p. write_as p Nobody 0 (52 ∷ []) 7 7 total_key) metered metered-obeys 18 refl)
+    and (calls.write (lent packed) [] [] seven under-set seven Nobody, as-good answer_told (Err BadTable) (λ p. write_as p Nobody 0 [] 7 7 []) (whole packed) (whole-obeys packed packed-obeys) 5 refl)
+    and (calls.write (lent ended) [] [] seven under-ttl seven Nobody, as-good answer_told (Err BadTable) (λ p. write_as p Nobody 2 [] 7 7 []) (whole ended) (whole-obeys ended ended-obeys) 6 refl)
     and no_more
 
 deletes : AllShown calls.Delete (0 ∷ 14 ∷ 2 ∷ 1 ∷ 19 ∷ 3 ∷ 6 ∷ [])
 unfolding calls.leaves answer_told call_as call node_of set_node decide wish act find same_bytes zeros records
 deletes =
-    (calls.delete (lent usual) (1 ∷ []) seven seven Nobody, as-good answer_told (plain.Refused BadTable) (λ p. call_as p Nobody (Deleting 7) 7 (1 ∷ [])) (whole usual) (whole-obeys usual usual-obeys) 0 refl)
-    and (calls.delete [] [] seven seven Nobody, on-bad answer_told (plain.Refused BadTable) (call_as (decode_whole []).kind.profile Nobody (Deleting 7) 7 []) 14 refl)
-    and (calls.delete (lent []) [] seven seven Nobody, as-good answer_told (plain.Refused BadTable) (λ p. call_as p Nobody (Deleting 7) 7 []) (whole []) (whole-obeys [] none-obeys) 2 refl)
-    and (calls.delete (lent newly) (zeros 33) seven seven Nobody, as-good answer_told (plain.Refused BadTable) (λ p. call_as p Nobody (Deleting 7) 7 (zeros 33)) (whole newly) (whole-obeys newly newly-obeys) 1 refl)
-    and (calls.delete (encode_whole (shared newly)) [] seven seven Nobody, as-good answer_told (plain.Refused BadTable) (λ p. call_as p Nobody (Deleting 7) 7 []) (shared newly) shared-newly-obeys 19 refl)
-    and (calls.delete (lent newly) [] seven seven Nobody, as-good answer_told (plain.Refused BadTable) (λ p. call_as p Nobody (Deleting 7) 7 []) (whole newly) (whole-obeys newly newly-obeys) 3 refl)
-    and (calls.delete (lent ended) (1 ∷ []) seven seven Nobody, as-good answer_told (plain.Refused BadTable) (λ p. call_as p Nobody (Deleting 7) 7 (1 ∷ [])) (whole ended) (whole-obeys ended ended-obeys) 6 refl)
+    (calls.delete (lent usual) (1 ∷ []) seven seven Nobody, as-good answer_told (Err BadTable) (λ p. call_as p Nobody (Deleting 7) 7 (1 ∷ [])) (whole usual) (whole-obeys usual usual-obeys) 0 refl)
+    and (calls.delete [] [] seven seven Nobody, on-bad answer_told (Err BadTable) (call_as (decode_whole []).kind.profile Nobody (Deleting 7) 7 []) 14 refl)
+    and (calls.delete (lent []) [] seven seven Nobody, as-good answer_told (Err BadTable) (λ p. call_as p Nobody (Deleting 7) 7 []) (whole []) (whole-obeys [] none-obeys) 2 refl)
+    and (calls.delete (lent newly) (zeros 33) seven seven Nobody, as-good answer_told (Err BadTable) (λ p. call_as p Nobody (Deleting 7) 7 (zeros 33)) (whole newly) (whole-obeys newly newly-obeys) 1 refl)
+    and (calls.delete (encode_whole (shared newly)) [] seven seven Nobody, as-good answer_told (Err BadTable) (λ p. call_as p Nobody (Deleting 7) 7 []) (shared newly) shared-newly-obeys 19 refl)
+    and (calls.delete (lent newly) [] seven seven Nobody, as-good answer_told (Err BadTable) (λ p. call_as p Nobody (Deleting 7) 7 []) (whole newly) (whole-obeys newly newly-obeys) 3 refl)
+    and (calls.delete (lent ended) (1 ∷ []) seven seven Nobody, as-good answer_told (Err BadTable) (λ p. call_as p Nobody (Deleting 7) 7 (1 ∷ [])) (whole ended) (whole-obeys ended ended-obeys) 6 refl)
     and no_more
 
 deletes-ttl : AllShown calls.DeleteAfterTtl (0 ∷ 14 ∷ 2 ∷ 1 ∷ 19 ∷ 3 ∷ 6 ∷ [])
 unfolding calls.leaves answer_told call_as call node_of set_node decide wish act find same_bytes zeros records
 deletes-ttl =
-    (calls.delete-after-ttl (lent usual) (1 ∷ []) seven seven Nobody, as-good answer_told (plain.Refused BadTable) (λ p. call_as p Nobody (DeletingAfterTtl 7) 7 (1 ∷ [])) (whole usual) (whole-obeys usual usual-obeys) 0 refl)
-    and (calls.delete-after-ttl [] [] seven seven Nobody, on-bad answer_told (plain.Refused BadTable) (call_as (decode_whole []).kind.profile Nobody (DeletingAfterTtl 7) 7 []) 14 refl)
-    and (calls.delete-after-ttl (lent []) [] seven seven Nobody, as-good answer_told (plain.Refused BadTable) (λ p. call_as p Nobody (DeletingAfterTtl 7) 7 []) (whole []) (whole-obeys [] none-obeys) 2 refl)
-    and (calls.delete-after-ttl (lent newly) (zeros 33) seven seven Nobody, as-good answer_told (plain.Refused BadTable) (λ p. call_as p Nobody (DeletingAfterTtl 7) 7 (zeros 33)) (whole newly) (whole-obeys newly newly-obeys) 1 refl)
-    and (calls.delete-after-ttl (encode_whole (shared newly)) [] seven seven Nobody, as-good answer_told (plain.Refused BadTable) (λ p. call_as p Nobody (DeletingAfterTtl 7) 7 []) (shared newly) shared-newly-obeys 19 refl)
-    and (calls.delete-after-ttl (lent newly) [] seven seven Nobody, as-good answer_told (plain.Refused BadTable) (λ p. call_as p Nobody (DeletingAfterTtl 7) 7 []) (whole newly) (whole-obeys newly newly-obeys) 3 refl)
-    and (calls.delete-after-ttl (lent ended) (1 ∷ []) seven seven Nobody, as-good answer_told (plain.Refused BadTable) (λ p. call_as p Nobody (DeletingAfterTtl 7) 7 (1 ∷ [])) (whole ended) (whole-obeys ended ended-obeys) 6 refl)
+    (calls.delete-after-ttl (lent usual) (1 ∷ []) seven seven Nobody, as-good answer_told (Err BadTable) (λ p. call_as p Nobody (DeletingAfterTtl 7) 7 (1 ∷ [])) (whole usual) (whole-obeys usual usual-obeys) 0 refl)
+    and (calls.delete-after-ttl [] [] seven seven Nobody, on-bad answer_told (Err BadTable) (call_as (decode_whole []).kind.profile Nobody (DeletingAfterTtl 7) 7 []) 14 refl)
+    and (calls.delete-after-ttl (lent []) [] seven seven Nobody, as-good answer_told (Err BadTable) (λ p. call_as p Nobody (DeletingAfterTtl 7) 7 []) (whole []) (whole-obeys [] none-obeys) 2 refl)
+    and (calls.delete-after-ttl (lent newly) (zeros 33) seven seven Nobody, as-good answer_told (Err BadTable) (λ p. call_as p Nobody (DeletingAfterTtl 7) 7 (zeros 33)) (whole newly) (whole-obeys newly newly-obeys) 1 refl)
+    and (calls.delete-after-ttl (encode_whole (shared newly)) [] seven seven Nobody, as-good answer_told (Err BadTable) (λ p. call_as p Nobody (DeletingAfterTtl 7) 7 []) (shared newly) shared-newly-obeys 19 refl)
+    and (calls.delete-after-ttl (lent newly) [] seven seven Nobody, as-good answer_told (Err BadTable) (λ p. call_as p Nobody (DeletingAfterTtl 7) 7 []) (whole newly) (whole-obeys newly newly-obeys) 3 refl)
+    and (calls.delete-after-ttl (lent ended) (1 ∷ []) seven seven Nobody, as-good answer_told (Err BadTable) (λ p. call_as p Nobody (DeletingAfterTtl 7) 7 (1 ∷ [])) (whole ended) (whole-obeys ended ended-obeys) 6 refl)
     and no_more
 
 collected : AllShown calls.RemoveScheduled (0 ∷ 14 ∷ [])
 unfolding calls.leaves answer_told gc
 collected =
-    (calls.remove-scheduled (lent []) seven seven, on-good answer_told (plain.Refused BadTable) (gc 7 7) [] none-obeys 0 refl)
-    and (calls.remove-scheduled [] seven seven, on-bad answer_told (plain.Refused BadTable) (gc 7 7) 14 refl)
+    (calls.remove-scheduled (lent []) seven seven, on-good answer_told (Err BadTable) (gc 7 7) [] none-obeys 0 refl)
+    and (calls.remove-scheduled [] seven seven, on-bad answer_told (Err BadTable) (gc 7 7) 14 refl)
     and no_more
 
 -- ---- heartbeats
@@ -387,18 +369,18 @@ collected =
 offers : AllShown calls.OfferHeartbeat (0 ∷ 14 ∷ 2 ∷ [])
 unfolding calls.leaves offered_told offer node_of set_node offer_of
 offers =
-    (calls.offer-heartbeat (lent newly) seven seven, on-good offered_told (offered.Refused BadTable) (offer 7 (beats 7)) newly newly-obeys 0 refl)
-    and (calls.offer-heartbeat [] seven seven, on-bad offered_told (offered.Refused BadTable) (offer 7 (beats 7)) 14 refl)
-    and (calls.offer-heartbeat (lent []) seven seven, on-good offered_told (offered.Refused BadTable) (offer 7 (beats 7)) [] none-obeys 2 refl)
+    (calls.offer-heartbeat (lent newly) seven seven, on-good offered_told (Err BadTable) (offer 7 (beats 7)) newly newly-obeys 0 refl)
+    and (calls.offer-heartbeat [] seven seven, on-bad offered_told (Err BadTable) (offer 7 (beats 7)) 14 refl)
+    and (calls.offer-heartbeat (lent []) seven seven, on-good offered_told (Err BadTable) (offer 7 (beats 7)) [] none-obeys 2 refl)
     and no_more
 
 beaten : AllShown calls.LocalBeat (0 ∷ 14 ∷ 2 ∷ 6 ∷ [])
 unfolding calls.leaves answer_told local_beat node_of set_node
 beaten =
-    (calls.local-beat (lent newly) seven, on-good answer_told (plain.Refused BadTable) (local_beat 7) newly newly-obeys 0 refl)
-    and (calls.local-beat [] seven, on-bad answer_told (plain.Refused BadTable) (local_beat 7) 14 refl)
-    and (calls.local-beat (lent []) seven, on-good answer_told (plain.Refused BadTable) (local_beat 7) [] none-obeys 2 refl)
-    and (calls.local-beat (lent ended) seven, on-good answer_told (plain.Refused BadTable) (local_beat 7) ended ended-obeys 6 refl)
+    (calls.local-beat (lent newly) seven, on-good answer_told (Err BadTable) (local_beat 7) newly newly-obeys 0 refl)
+    and (calls.local-beat [] seven, on-bad answer_told (Err BadTable) (local_beat 7) 14 refl)
+    and (calls.local-beat (lent []) seven, on-good answer_told (Err BadTable) (local_beat 7) [] none-obeys 2 refl)
+    and (calls.local-beat (lent ended) seven, on-good answer_told (Err BadTable) (local_beat 7) ended ended-obeys 6 refl)
     and no_more
 
 -- ---- readings
@@ -406,21 +388,21 @@ beaten =
 finds : AllShown calls.Find (0 ∷ 14 ∷ 2 ∷ 1 ∷ 19 ∷ [])
 unfolding calls.leaves found_told node_of find_rec zeros alone keep
 finds =
-    (calls.find (lent newly) [] seven Nobody, seen-good (λ a. (found_told a).number) (found.Refused BadTable) (λ p. find_as p Nobody 7 []) (whole newly) (whole-obeys newly newly-obeys) 0 refl)
-    and (calls.find [] [] seven Nobody, from-bad (λ a. (found_told a).number) (found.Refused BadTable) (find_as (decode_whole []).kind.profile Nobody 7 []) 14 refl)
-    and (calls.find (lent []) [] seven Nobody, seen-good (λ a. (found_told a).number) (found.Refused BadTable) (λ p. find_as p Nobody 7 []) (whole []) (whole-obeys [] none-obeys) 2 refl)
-    and (calls.find (lent newly) (zeros 33) seven Nobody, seen-good (λ a. (found_told a).number) (found.Refused BadTable) (λ p. find_as p Nobody 7 (zeros 33)) (whole newly) (whole-obeys newly newly-obeys) 1 refl)
-    and (calls.find (encode_whole (shared newly)) [] seven Nobody, seen-good (λ a. (found_told a).number) (found.Refused BadTable) (λ p. find_as p Nobody 7 []) (shared newly) shared-newly-obeys 19 refl)
+    (calls.find (lent newly) [] seven Nobody, seen-good (λ a. (found_told a).number) (Err BadTable) (λ p. find_as p Nobody 7 []) (whole newly) (whole-obeys newly newly-obeys) 0 refl)
+    and (calls.find [] [] seven Nobody, from-bad (λ a. (found_told a).number) (Err BadTable) (find_as (decode_whole []).kind.profile Nobody 7 []) 14 refl)
+    and (calls.find (lent []) [] seven Nobody, seen-good (λ a. (found_told a).number) (Err BadTable) (λ p. find_as p Nobody 7 []) (whole []) (whole-obeys [] none-obeys) 2 refl)
+    and (calls.find (lent newly) (zeros 33) seven Nobody, seen-good (λ a. (found_told a).number) (Err BadTable) (λ p. find_as p Nobody 7 (zeros 33)) (whole newly) (whole-obeys newly newly-obeys) 1 refl)
+    and (calls.find (encode_whole (shared newly)) [] seven Nobody, seen-good (λ a. (found_told a).number) (Err BadTable) (λ p. find_as p Nobody 7 []) (shared newly) shared-newly-obeys 19 refl)
     and no_more
 
 lists : AllShown calls.ListPrefix (0 ∷ 14 ∷ 2 ∷ 1 ∷ 8 ∷ [])
 unfolding calls.leaves listed_told prefixed prefixed_as node_of hits_from starts_with zeros
 lists =
-    (calls.list-prefix (lent newly) [] [] seven Nobody, seen-good (λ (a : Given Listed Bytes). (listed_told a.answer).number) (given (listed.Refused BadTable) []) (λ p t. prefixed_as p Nobody 7 [] t []) (whole newly) (whole-obeys newly newly-obeys) 0 refl)
-    and (calls.list-prefix [] [] [] seven Nobody, from-bad (λ (a : Given Listed Bytes). (listed_told a.answer).number) (given (listed.Refused BadTable) []) (λ t. prefixed_as (decode_whole []).kind.profile Nobody 7 [] t []) 14 refl)
-    and (calls.list-prefix (lent []) [] [] seven Nobody, seen-good (λ (a : Given Listed Bytes). (listed_told a.answer).number) (given (listed.Refused BadTable) []) (λ p t. prefixed_as p Nobody 7 [] t []) (whole []) (whole-obeys [] none-obeys) 2 refl)
-    and (calls.list-prefix (lent newly) (zeros 33) [] seven Nobody, seen-good (λ (a : Given Listed Bytes). (listed_told a.answer).number) (given (listed.Refused BadTable) []) (λ p t. prefixed_as p Nobody 7 (zeros 33) t []) (whole newly) (whole-obeys newly newly-obeys) 1 refl)
-    and (calls.list-prefix (lent usual) [] [] seven Nobody, seen-good (λ (a : Given Listed Bytes). (listed_told a.answer).number) (given (listed.Refused BadTable) []) (λ p t. prefixed_as p Nobody 7 [] t []) (whole usual) (whole-obeys usual usual-obeys) 8 refl)
+    (calls.list-prefix (lent newly) [] [] seven Nobody, seen-good (λ (a : Given (Result ℕ Refusal) Bytes). (listed_told a.answer).number) (given (Err BadTable) []) (λ p t. prefixed_as p Nobody 7 [] t []) (whole newly) (whole-obeys newly newly-obeys) 0 refl)
+    and (calls.list-prefix [] [] [] seven Nobody, from-bad (λ (a : Given (Result ℕ Refusal) Bytes). (listed_told a.answer).number) (given (Err BadTable) []) (λ t. prefixed_as (decode_whole []).kind.profile Nobody 7 [] t []) 14 refl)
+    and (calls.list-prefix (lent []) [] [] seven Nobody, seen-good (λ (a : Given (Result ℕ Refusal) Bytes). (listed_told a.answer).number) (given (Err BadTable) []) (λ p t. prefixed_as p Nobody 7 [] t []) (whole []) (whole-obeys [] none-obeys) 2 refl)
+    and (calls.list-prefix (lent newly) (zeros 33) [] seven Nobody, seen-good (λ (a : Given (Result ℕ Refusal) Bytes). (listed_told a.answer).number) (given (Err BadTable) []) (λ p t. prefixed_as p Nobody 7 (zeros 33) t []) (whole newly) (whole-obeys newly newly-obeys) 1 refl)
+    and (calls.list-prefix (lent usual) [] [] seven Nobody, seen-good (λ (a : Given (Result ℕ Refusal) Bytes). (listed_told a.answer).number) (given (Err BadTable) []) (λ p t. prefixed_as p Nobody 7 [] t []) (whole usual) (whole-obeys usual usual-obeys) 8 refl)
     and no_more
 
 -- ---- overrides: the node of a table, in its own bytes
@@ -448,23 +430,23 @@ packed-entry = refl
 none_over : valid_node [] ≡ false
 none_over = sym (length-stops [] (λ e. omega arith))
 
-over-good : (rule : Entry → Given Answer Entry) (e : Entry) → entry_obeys e ≡ true → (n : ℕ) → (answer_told (rule e).answer).number ≡ n
-    → (answer_told (on_overrides (plain.Refused BadTable) rule (encode_node e)).answer).number ≡ n
+over-good : (rule : Entry → Given (Result (Unit {0}) Refusal) Entry) (e : Entry) → entry_obeys e ≡ true → (n : ℕ) → (answer_told (rule e).answer).number ≡ n
+    → (answer_told (on_overrides (Err BadTable) rule (encode_node e)).answer).number ≡ n
 unfolding on_overrides
 over-good rule e o n q =
-    ap (λ (b : Bool). (answer_told (pick b (stored_node (rule (decode_node (encode_node e)))) (given (plain.Refused BadTable) (encode_node e))).answer).number) (valid-by-node e o)
+    ap (λ (b : Bool). (answer_told (pick b (stored_node (rule (decode_node (encode_node e)))) (given (Err BadTable) (encode_node e))).answer).number) (valid-by-node e o)
     ∙ ap (λ (x : Entry). (answer_told (rule x).answer).number) (decode-encode-node e (fits-entry e (entry-obeys e o)))
     ∙ q
 
-over-bad : (rule : Entry → Given Answer Entry) (n : ℕ) → (answer_told (plain.Refused BadTable)).number ≡ n → (answer_told (on_overrides (plain.Refused BadTable) rule []).answer).number ≡ n
+over-bad : (rule : Entry → Given (Result (Unit {0}) Refusal) Entry) (n : ℕ) → (answer_told (Err BadTable)).number ≡ n → (answer_told (on_overrides (Err BadTable) rule []).answer).number ≡ n
 unfolding on_overrides
-over-bad rule n e = ap (λ (b : Bool). (answer_told (pick b (stored_node (rule (decode_node []))) (given (plain.Refused BadTable) [])).answer).number) none_over ∙ e
+over-bad rule n e = ap (λ (b : Bool). (answer_told (pick b (stored_node (rule (decode_node []))) (given (Err BadTable) [])).answer).number) none_over ∙ e
 
 new-over : AllShown calls.NewOverrides (0 ∷ 14 ∷ [])
 unfolding calls.leaves lent_new_overrides answer_told
 new-over = (
   calls.new-overrides (encode_node (entry fresh)) seven,
-  ap (λ (b : Bool). (answer_told (pick b (given plain.Done (encode_node (fresh_entry 7))) (given (plain.Refused BadTable) (encode_node (entry fresh)))).answer).number)
+  ap (λ (b : Bool). (answer_told (pick b (given done (encode_node (fresh_entry 7))) (given (Err BadTable) (encode_node (entry fresh)))).answer).number)
       (eq-eqb (length (encode_node (entry fresh))) node_width (length-node (entry fresh))),
 )
     and (calls.new-overrides [] seven, refl)
@@ -531,21 +513,21 @@ both-bad number bad rule t n e = ap (λ (b : Bool). number (pick b (from_table (
 finds-over : AllShown calls.FindOver (0 ∷ 14 ∷ 2 ∷ 1 ∷ 19 ∷ [])
 unfolding calls.leaves found_over_told node_of find_rec zeros alone keep
 finds-over =
-    (calls.find-over (lent newly) none-laid [] seven Nobody, both-good (λ a. (found_over_told a).number) (λ w. over.Refused w BadTable) (λ p. found_over p Nobody 7 []) (whole newly) (whole-obeys newly newly-obeys) 0 refl)
-    and (calls.find-over [] [] [] seven Nobody, both-bad (λ a. (found_over_told a).number) (λ w. over.Refused w BadTable) (found_over (decode_whole []).kind.profile Nobody 7 []) [] 14 refl)
-    and (calls.find-over (lent []) none-laid [] seven Nobody, both-good (λ a. (found_over_told a).number) (λ w. over.Refused w BadTable) (λ p. found_over p Nobody 7 []) (whole []) (whole-obeys [] none-obeys) 2 refl)
-    and (calls.find-over (lent newly) none-laid (zeros 33) seven Nobody, both-good (λ a. (found_over_told a).number) (λ w. over.Refused w BadTable) (λ p. found_over p Nobody 7 (zeros 33)) (whole newly) (whole-obeys newly newly-obeys) 1 refl)
-    and (calls.find-over (encode_whole (shared newly)) none-laid [] seven Nobody, both-good (λ a. (found_over_told a).number) (λ w. over.Refused w BadTable) (λ p. found_over p Nobody 7 []) (shared newly) shared-newly-obeys 19 refl)
+    (calls.find-over (lent newly) none-laid [] seven Nobody, both-good (λ a. (found_over_told a).number) (λ w. (Err (record { which = w; why = BadTable }))) (λ p. found_over p Nobody 7 []) (whole newly) (whole-obeys newly newly-obeys) 0 refl)
+    and (calls.find-over [] [] [] seven Nobody, both-bad (λ a. (found_over_told a).number) (λ w. (Err (record { which = w; why = BadTable }))) (found_over (decode_whole []).kind.profile Nobody 7 []) [] 14 refl)
+    and (calls.find-over (lent []) none-laid [] seven Nobody, both-good (λ a. (found_over_told a).number) (λ w. (Err (record { which = w; why = BadTable }))) (λ p. found_over p Nobody 7 []) (whole []) (whole-obeys [] none-obeys) 2 refl)
+    and (calls.find-over (lent newly) none-laid (zeros 33) seven Nobody, both-good (λ a. (found_over_told a).number) (λ w. (Err (record { which = w; why = BadTable }))) (λ p. found_over p Nobody 7 (zeros 33)) (whole newly) (whole-obeys newly newly-obeys) 1 refl)
+    and (calls.find-over (encode_whole (shared newly)) none-laid [] seven Nobody, both-good (λ a. (found_over_told a).number) (λ w. (Err (record { which = w; why = BadTable }))) (λ p. found_over p Nobody 7 []) (shared newly) shared-newly-obeys 19 refl)
     and no_more
 
 lists-over : AllShown calls.ListOver (0 ∷ 14 ∷ 2 ∷ 1 ∷ 8 ∷ [])
 unfolding calls.leaves listed_over_told node_of merging.listing merging.hits_by merging.overlaid merging.places_of starts_with zeros
 lists-over =
-    (calls.list-over (lent newly) none-laid [] [] seven Nobody, both-good (λ (a : Given ListedOver Bytes). (listed_over_told a.answer).number) (λ w. given (merged.Refused w BadTable) []) (λ p. list_over p Nobody 7 [] []) (whole newly) (whole-obeys newly newly-obeys) 0 refl)
-    and (calls.list-over [] [] [] [] seven Nobody, both-bad (λ (a : Given ListedOver Bytes). (listed_over_told a.answer).number) (λ w. given (merged.Refused w BadTable) []) (list_over (decode_whole []).kind.profile Nobody 7 [] []) [] 14 refl)
-    and (calls.list-over (lent []) none-laid [] [] seven Nobody, both-good (λ (a : Given ListedOver Bytes). (listed_over_told a.answer).number) (λ w. given (merged.Refused w BadTable) []) (λ p. list_over p Nobody 7 [] []) (whole []) (whole-obeys [] none-obeys) 2 refl)
-    and (calls.list-over (lent newly) none-laid (zeros 33) [] seven Nobody, both-good (λ (a : Given ListedOver Bytes). (listed_over_told a.answer).number) (λ w. given (merged.Refused w BadTable) []) (λ p. list_over p Nobody 7 (zeros 33) []) (whole newly) (whole-obeys newly newly-obeys) 1 refl)
-    and (calls.list-over (lent usual) none-laid [] [] seven Nobody, both-good (λ (a : Given ListedOver Bytes). (listed_over_told a.answer).number) (λ w. given (merged.Refused w BadTable) []) (λ p. list_over p Nobody 7 [] []) (whole usual) (whole-obeys usual usual-obeys) 8 refl)
+    (calls.list-over (lent newly) none-laid [] [] seven Nobody, both-good (λ (a : Given (Result ℕ RefusedOver) Bytes). (listed_over_told a.answer).number) (λ w. given (Err (record { which = w; why = BadTable })) []) (λ p. list_over p Nobody 7 [] []) (whole newly) (whole-obeys newly newly-obeys) 0 refl)
+    and (calls.list-over [] [] [] [] seven Nobody, both-bad (λ (a : Given (Result ℕ RefusedOver) Bytes). (listed_over_told a.answer).number) (λ w. given (Err (record { which = w; why = BadTable })) []) (list_over (decode_whole []).kind.profile Nobody 7 [] []) [] 14 refl)
+    and (calls.list-over (lent []) none-laid [] [] seven Nobody, both-good (λ (a : Given (Result ℕ RefusedOver) Bytes). (listed_over_told a.answer).number) (λ w. given (Err (record { which = w; why = BadTable })) []) (λ p. list_over p Nobody 7 [] []) (whole []) (whole-obeys [] none-obeys) 2 refl)
+    and (calls.list-over (lent newly) none-laid (zeros 33) [] seven Nobody, both-good (λ (a : Given (Result ℕ RefusedOver) Bytes). (listed_over_told a.answer).number) (λ w. given (Err (record { which = w; why = BadTable })) []) (λ p. list_over p Nobody 7 (zeros 33) []) (whole newly) (whole-obeys newly newly-obeys) 1 refl)
+    and (calls.list-over (lent usual) none-laid [] [] seven Nobody, both-good (λ (a : Given (Result ℕ RefusedOver) Bytes). (listed_over_told a.answer).number) (λ w. given (Err (record { which = w; why = BadTable })) []) (λ p. list_over p Nobody 7 [] []) (whole usual) (whole-obeys usual usual-obeys) 8 refl)
     and no_more
 
 -- ---- grids: those of small tables, in their bytes
@@ -587,14 +569,14 @@ beside-good number g s t o c rule bad n e =
 beside-bad : {A : Type 0} (number : A → ℕ) (x bad : A) (n : ℕ) → number bad ≡ n → number (pick (valid_both [] []) x bad) ≡ n
 beside-bad number x bad n e = ap (λ (b : Bool). number (pick b x bad)) none_both ∙ e
 
-abbrev answered : {M : Type 0} → Given Answer M → ℕ
+abbrev answered : {M : Type 0} → Given (Result (Unit {0}) Refusal) M → ℕ
 answered a = (answer_told a.answer).number
 
 grids-made : AllShown calls.NewGrid (0 ∷ 14 ∷ [])
 unfolding calls.leaves lent_new_grid answer_told
 grids-made = (
   calls.new-grid (lent []) (encode_grid (made [])),
-  ap (λ (b : Bool). answered (pick b (given plain.Done (encode_grid (new_grid (numbers_of (decode_whole (lent [])).table)))) (given (plain.Refused BadTable) (encode_grid (made [])))))
+  ap (λ (b : Bool). answered (pick b (given done (encode_grid (new_grid (numbers_of (decode_whole (lent [])).table)))) (given (Err BadTable) (encode_grid (made [])))))
       (and_intro (eqb (length (encode_grid (made []))) grid_width) (valid_whole (lent [])) (eq-eqb (length (encode_grid (made []))) grid_width (length-grid (made [])))
       (valid-encode-whole (whole []) (whole-obeys [] none-obeys))),
 )
@@ -602,10 +584,10 @@ grids-made = (
     and no_more
 
 -- what a node that comes with its column gives
-abbrev come : (i : ℕ) (g t : Bytes) (x : Grid) (w : Whole) → Given Answer GridAndTable
+abbrev come : (i : ℕ) (g t : Bytes) (x : Grid) (w : Whole) → Given (Result (Unit {0}) Refusal) GridAndTable
 come i g t x w = given (add_whole i w).answer (beside (grid_on (add_whole i w).answer (encode_grid (add_column i x)) g) (encode_whole (add_whole i w).lent))
 
-abbrev go-away : (i : ℕ) (g t : Bytes) (x : Grid) (w : Whole) → Given Answer GridAndTable
+abbrev go-away : (i : ℕ) (g t : Bytes) (x : Grid) (w : Whole) → Given (Result (Unit {0}) Refusal) GridAndTable
 go-away i g t x w = given (remove_whole i w).answer (beside (grid_on (remove_whole i w).answer (encode_grid (drop_column i x)) g) (encode_whole (remove_whole i w).lent))
 
 came : AllShown calls.GridAddNode (0 ∷ 14 ∷ 4 ∷ [])
@@ -628,62 +610,62 @@ went =
 abbrev bare : Bytes
 bare = encode_grid (made [])
 
-abbrev hear : (p edition : ℕ) (digest g : Bytes) (x : Grid) → Given Answer Bytes
-hear p edition digest g x = pick (ltb p max_peers) (tell_on p (read_digest edition digest) g) (given (plain.Refused BadPeer) g)
+abbrev hear : (p edition : ℕ) (digest g : Bytes) (x : Grid) → Given (Result (Unit {0}) Refusal) Bytes
+hear p edition digest g x = pick (ltb p max_peers) (tell_on p (read_digest edition digest) g) (given (Err BadPeer) g)
 
 heard-so : (p edition : ℕ) (digest : Bytes) (n : ℕ) → answered (hear p edition digest bare (made [])) ≡ n → answered (lent_tell p edition digest bare) ≡ n
 unfolding lent_tell
-heard-so p edition digest n e = grid-good answered (made []) (table-sound [] none-obeys) (hear p edition digest bare) (given (plain.Refused BadTable) bare) n e
+heard-so p edition digest n e = grid-good answered (made []) (table-sound [] none-obeys) (hear p edition digest bare) (given (Err BadTable) bare) n e
 
 tells : AllShown calls.Tell (0 ∷ 14 ∷ 21 ∷ 20 ∷ 9 ∷ 13 ∷ [])
 unfolding calls.leaves answer_told read_digest read_entries nat_of unblock tell_all lent_tell all received
 tells =
     (calls.tell bare (received (0 ∷ 0 ∷ []) refl) 0 0, heard-so 0 0 (0 ∷ 0 ∷ []) 0 refl)
-    and (calls.tell [] (received [] refl) 0 0, grid-bad answered (hear 0 0 [] [] (decode_grid [])) (given (plain.Refused BadTable) []) 14 refl)
+    and (calls.tell [] (received [] refl) 0 0, grid-bad answered (hear 0 0 [] [] (decode_grid [])) (given (Err BadTable) []) 14 refl)
     and (calls.tell bare (received [] refl) 8 2, heard-so 8 2 [] 21 refl)
     and (calls.tell bare (received [] refl) 0 2, heard-so 0 2 [] 20 refl)
     and (calls.tell bare (received [] refl) 0 0, heard-so 0 0 [] 9 refl)
     and (calls.tell bare (received (9 ∷ 0 ∷ []) refl) 0 0, heard-so 0 0 (9 ∷ 0 ∷ []) 13 refl)
     and no_more
 
-abbrev take-away : (p : ℕ) (g : Bytes) (x : Grid) → Given Answer Bytes
-take-away p g x = pick (ltb p max_peers) (given plain.Done (encode_grid (take_out p x))) (given (plain.Refused BadPeer) g)
+abbrev take-away : (p : ℕ) (g : Bytes) (x : Grid) → Given (Result (Unit {0}) Refusal) Bytes
+take-away p g x = pick (ltb p max_peers) (given done (encode_grid (take_out p x))) (given (Err BadPeer) g)
 
 taken_out : AllShown calls.TakeOut (0 ∷ 14 ∷ 21 ∷ [])
 unfolding calls.leaves answer_told lent_take_out
 taken_out =
-    (calls.take-out bare 0, grid-good answered (made []) (table-sound [] none-obeys) (take-away 0 bare) (given (plain.Refused BadTable) bare) 0 refl)
-    and (calls.take-out [] 0, grid-bad answered (take-away 0 [] (decode_grid [])) (given (plain.Refused BadTable) []) 14 refl)
-    and (calls.take-out bare 8, grid-good answered (made []) (table-sound [] none-obeys) (take-away 8 bare) (given (plain.Refused BadTable) bare) 21 refl)
+    (calls.take-out bare 0, grid-good answered (made []) (table-sound [] none-obeys) (take-away 0 bare) (given (Err BadTable) bare) 0 refl)
+    and (calls.take-out [] 0, grid-bad answered (take-away 0 [] (decode_grid [])) (given (Err BadTable) []) 14 refl)
+    and (calls.take-out bare 8, grid-good answered (made []) (table-sound [] none-obeys) (take-away 8 bare) (given (Err BadTable) bare) 21 refl)
     and no_more
 
 leasts : AllShown calls.LeastMax (0 ∷ 14 ∷ 22 ∷ 2 ∷ [])
 unfolding calls.leaves least_told lent_least new_grid tell_row numbers_of among fit zeros
 leasts =
-    (calls.least-max (encode_grid (heard newly)) 7, grid-good (λ a. (least_told a).number) (heard newly) (heard-sound newly newly-obeys) (least_in 7) (least.Refused BadTable) 0 refl)
-    and (calls.least-max [] 7, grid-bad (λ a. (least_told a).number) (least_in 7 (decode_grid [])) (least.Refused BadTable) 14 refl)
-    and (calls.least-max bare 7, grid-good (λ a. (least_told a).number) (made []) (table-sound [] none-obeys) (least_in 7) (least.Refused BadTable) 22 refl)
-    and (calls.least-max (encode_grid (heard [])) 7, grid-good (λ a. (least_told a).number) (heard []) (heard-sound [] none-obeys) (least_in 7) (least.Refused BadTable) 2 refl)
+    (calls.least-max (encode_grid (heard newly)) 7, grid-good (λ a. (least_told a).number) (heard newly) (heard-sound newly newly-obeys) (least_in 7) (Err BadTable) 0 refl)
+    and (calls.least-max [] 7, grid-bad (λ a. (least_told a).number) (least_in 7 (decode_grid [])) (Err BadTable) 14 refl)
+    and (calls.least-max bare 7, grid-good (λ a. (least_told a).number) (made []) (table-sound [] none-obeys) (least_in 7) (Err BadTable) 22 refl)
+    and (calls.least-max (encode_grid (heard [])) 7, grid-good (λ a. (least_told a).number) (heard []) (heard-sound [] none-obeys) (least_in 7) (Err BadTable) 2 refl)
     and no_more
 
 seen-pairs : AllShown calls.SeenBy (0 ∷ 14 ∷ 21 ∷ 2 ∷ [])
 unfolding calls.leaves seen_told lent_seen new_grid numbers_of among fit zeros
 seen-pairs =
-    (calls.seen-by (encode_grid (made newly)) 0 7, grid-good (λ a. (seen_told a).number) (made newly) (table-sound newly newly-obeys) (seen_in 0 7) (seen.Refused BadTable) 0 refl)
-    and (calls.seen-by [] 0 7, grid-bad (λ a. (seen_told a).number) (seen_in 0 7 (decode_grid [])) (seen.Refused BadTable) 14 refl)
-    and (calls.seen-by bare 8 7, grid-good (λ a. (seen_told a).number) (made []) (table-sound [] none-obeys) (seen_in 8 7) (seen.Refused BadTable) 21 refl)
-    and (calls.seen-by bare 0 7, grid-good (λ a. (seen_told a).number) (made []) (table-sound [] none-obeys) (seen_in 0 7) (seen.Refused BadTable) 2 refl)
+    (calls.seen-by (encode_grid (made newly)) 0 7, grid-good (λ a. (seen_told a).number) (made newly) (table-sound newly newly-obeys) (seen_in 0 7) (Err BadTable) 0 refl)
+    and (calls.seen-by [] 0 7, grid-bad (λ a. (seen_told a).number) (seen_in 0 7 (decode_grid [])) (Err BadTable) 14 refl)
+    and (calls.seen-by bare 8 7, grid-good (λ a. (seen_told a).number) (made []) (table-sound [] none-obeys) (seen_in 8 7) (Err BadTable) 21 refl)
+    and (calls.seen-by bare 0 7, grid-good (λ a. (seen_told a).number) (made []) (table-sound [] none-obeys) (seen_in 0 7) (Err BadTable) 2 refl)
     and no_more
 
-abbrev clear : (t : Bytes) (x : Grid) (w : Whole) → Given Answer Bytes
-clear t x w = pick (somebody x) (given plain.Done (encode_whole (with_table (carefully_removed x 7 7 w.table) w))) (given (plain.Refused NobodyPresent) t)
+abbrev clear : (t : Bytes) (x : Grid) (w : Whole) → Given (Result (Unit {0}) Refusal) Bytes
+clear t x w = pick (somebody x) (given done (encode_whole (with_table (carefully_removed x 7 7 w.table) w))) (given (Err NobodyPresent) t)
 
 carefully : AllShown calls.RemoveCarefully (0 ∷ 14 ∷ 22 ∷ [])
 unfolding calls.leaves answer_told lent_careful new_grid tell_row numbers_of among fit zeros
 carefully =
-    (calls.remove-carefully (lent []) (encode_grid (heard [])) seven seven, beside-good answered (heard []) (heard-sound [] none-obeys) [] none-obeys refl (clear (lent [])) (given (plain.Refused BadTable) (lent [])) 0 refl)
-    and (calls.remove-carefully [] [] seven seven, beside-bad answered (clear [] (decode_grid []) (decode_whole [])) (given (plain.Refused BadTable) []) 14 refl)
-    and (calls.remove-carefully (lent []) bare seven seven, beside-good answered (made []) (table-sound [] none-obeys) [] none-obeys refl (clear (lent [])) (given (plain.Refused BadTable) (lent [])) 22 refl)
+    (calls.remove-carefully (lent []) (encode_grid (heard [])) seven seven, beside-good answered (heard []) (heard-sound [] none-obeys) [] none-obeys refl (clear (lent [])) (given (Err BadTable) (lent [])) 0 refl)
+    and (calls.remove-carefully [] [] seven seven, beside-bad answered (clear [] (decode_grid []) (decode_whole [])) (given (Err BadTable) []) 14 refl)
+    and (calls.remove-carefully (lent []) bare seven seven, beside-good answered (made []) (table-sound [] none-obeys) [] none-obeys refl (clear (lent [])) (given (Err BadTable) (lent [])) 22 refl)
     and no_more
 
 -- ---- readings of a table
@@ -691,93 +673,93 @@ carefully =
 counts : AllShown calls.NodeCount (0 ∷ 14 ∷ [])
 unfolding calls.leaves count_told
 counts =
-    (calls.node-count (lent []), from-good (λ a. (count_told a).number) (count.Refused BadTable) node_count [] none-obeys 0 refl)
-    and (calls.node-count [], from-bad (λ a. (count_told a).number) (count.Refused BadTable) node_count 14 refl)
+    (calls.node-count (lent []), from-good (λ a. (count_told a).number) (Err BadTable) node_count [] none-obeys 0 refl)
+    and (calls.node-count [], from-bad (λ a. (count_told a).number) (Err BadTable) node_count 14 refl)
     and no_more
 
 numbered : AllShown calls.NodeNumber (0 ∷ 14 ∷ 8 ∷ [])
 unfolding calls.leaves node_number_told element_at
 numbered =
-    (calls.node-number (lent newly) 0, from-good (λ a. (node_number_told a).number) (number.Refused BadTable) (node_number 0) newly newly-obeys 0 refl)
-    and (calls.node-number [] 0, from-bad (λ a. (node_number_told a).number) (number.Refused BadTable) (node_number 0) 14 refl)
-    and (calls.node-number (lent []) 0, from-good (λ a. (node_number_told a).number) (number.Refused BadTable) (node_number 0) [] none-obeys 8 refl)
+    (calls.node-number (lent newly) 0, from-good (λ a. (node_number_told a).number) (Err BadTable) (node_number 0) newly newly-obeys 0 refl)
+    and (calls.node-number [] 0, from-bad (λ a. (node_number_told a).number) (Err BadTable) (node_number 0) 14 refl)
+    and (calls.node-number (lent []) 0, from-good (λ a. (node_number_told a).number) (Err BadTable) (node_number 0) [] none-obeys 8 refl)
     and no_more
 
 headed : AllShown calls.NodeHeader (0 ∷ 14 ∷ 2 ∷ [])
 unfolding calls.leaves node_header_told node_of
 headed =
-    (calls.node-header (lent newly) seven, from-good (λ a. (node_header_told a).number) (header.Refused BadTable) (node_header 7) newly newly-obeys 0 refl)
-    and (calls.node-header [] seven, from-bad (λ a. (node_header_told a).number) (header.Refused BadTable) (node_header 7) 14 refl)
-    and (calls.node-header (lent []) seven, from-good (λ a. (node_header_told a).number) (header.Refused BadTable) (node_header 7) [] none-obeys 2 refl)
+    (calls.node-header (lent newly) seven, from-good (λ a. (node_header_told a).number) (Err BadTable) (node_header 7) newly newly-obeys 0 refl)
+    and (calls.node-header [] seven, from-bad (λ a. (node_header_told a).number) (Err BadTable) (node_header 7) 14 refl)
+    and (calls.node-header (lent []) seven, from-good (λ a. (node_header_told a).number) (Err BadTable) (node_header 7) [] none-obeys 2 refl)
     and no_more
 
 record-counts : AllShown calls.RecordCount (0 ∷ 14 ∷ 2 ∷ [])
 unfolding calls.leaves count_told node_of
 record-counts =
-    (calls.record-count (lent newly) seven Nobody, seen-good (λ a. (count_told a).number) (count.Refused BadTable) (λ p. record_count_as p Nobody 7) (whole newly) (whole-obeys newly newly-obeys) 0 refl)
-    and (calls.record-count [] seven Nobody, from-bad (λ a. (count_told a).number) (count.Refused BadTable) (record_count_as (decode_whole []).kind.profile Nobody 7) 14 refl)
-    and (calls.record-count (lent []) seven Nobody, seen-good (λ a. (count_told a).number) (count.Refused BadTable) (λ p. record_count_as p Nobody 7) (whole []) (whole-obeys [] none-obeys) 2 refl)
+    (calls.record-count (lent newly) seven Nobody, seen-good (λ a. (count_told a).number) (Err BadTable) (λ p. record_count_as p Nobody 7) (whole newly) (whole-obeys newly newly-obeys) 0 refl)
+    and (calls.record-count [] seven Nobody, from-bad (λ a. (count_told a).number) (Err BadTable) (record_count_as (decode_whole []).kind.profile Nobody 7) 14 refl)
+    and (calls.record-count (lent []) seven Nobody, seen-good (λ a. (count_told a).number) (Err BadTable) (λ p. record_count_as p Nobody 7) (whole []) (whole-obeys [] none-obeys) 2 refl)
     and no_more
 
 records-at : AllShown calls.RecordAt (0 ∷ 14 ∷ 2 ∷ 8 ∷ [])
 unfolding calls.leaves record_read_told node_of element_at
 records-at =
-    (calls.record-at (lent usual) seven 0 Nobody, seen-good (λ a. (record_read_told a).number) (rec.Refused BadTable) (λ p. read_record_as p Nobody 7 0) (whole usual) (whole-obeys usual usual-obeys) 0 refl)
-    and (calls.record-at [] seven 0 Nobody, from-bad (λ a. (record_read_told a).number) (rec.Refused BadTable) (read_record_as (decode_whole []).kind.profile Nobody 7 0) 14 refl)
-    and (calls.record-at (lent []) seven 0 Nobody, seen-good (λ a. (record_read_told a).number) (rec.Refused BadTable) (λ p. read_record_as p Nobody 7 0) (whole []) (whole-obeys [] none-obeys) 2 refl)
-    and (calls.record-at (lent newly) seven 0 Nobody, seen-good (λ a. (record_read_told a).number) (rec.Refused BadTable) (λ p. read_record_as p Nobody 7 0) (whole newly) (whole-obeys newly newly-obeys) 8 refl)
+    (calls.record-at (lent usual) seven 0 Nobody, seen-good (λ a. (record_read_told a).number) (Err BadTable) (λ p. read_record_as p Nobody 7 0) (whole usual) (whole-obeys usual usual-obeys) 0 refl)
+    and (calls.record-at [] seven 0 Nobody, from-bad (λ a. (record_read_told a).number) (Err BadTable) (read_record_as (decode_whole []).kind.profile Nobody 7 0) 14 refl)
+    and (calls.record-at (lent []) seven 0 Nobody, seen-good (λ a. (record_read_told a).number) (Err BadTable) (λ p. read_record_as p Nobody 7 0) (whole []) (whole-obeys [] none-obeys) 2 refl)
+    and (calls.record-at (lent newly) seven 0 Nobody, seen-good (λ a. (record_read_told a).number) (Err BadTable) (λ p. read_record_as p Nobody 7 0) (whole newly) (whole-obeys newly newly-obeys) 8 refl)
     and no_more
 
 records-of : AllShown calls.RecordOf (0 ∷ 14 ∷ 8 ∷ [])
 unfolding calls.leaves record_read_told element_at
 records-of =
-    (calls.record-of (lent usual) 0 0 Nobody, seen-good (λ a. (record_read_told a).number) (rec.Refused BadTable) (λ p. record_of_as p Nobody 0 0) (whole usual) (whole-obeys usual usual-obeys) 0 refl)
-    and (calls.record-of [] 0 0 Nobody, from-bad (λ a. (record_read_told a).number) (rec.Refused BadTable) (record_of_as (decode_whole []).kind.profile Nobody 0 0) 14 refl)
-    and (calls.record-of (lent newly) 0 0 Nobody, seen-good (λ a. (record_read_told a).number) (rec.Refused BadTable) (λ p. record_of_as p Nobody 0 0) (whole newly) (whole-obeys newly newly-obeys) 8 refl)
+    (calls.record-of (lent usual) 0 0 Nobody, seen-good (λ a. (record_read_told a).number) (Err BadTable) (λ p. record_of_as p Nobody 0 0) (whole usual) (whole-obeys usual usual-obeys) 0 refl)
+    and (calls.record-of [] 0 0 Nobody, from-bad (λ a. (record_read_told a).number) (Err BadTable) (record_of_as (decode_whole []).kind.profile Nobody 0 0) 14 refl)
+    and (calls.record-of (lent newly) 0 0 Nobody, seen-good (λ a. (record_read_told a).number) (Err BadTable) (λ p. record_of_as p Nobody 0 0) (whole newly) (whole-obeys newly newly-obeys) 8 refl)
     and no_more
 
 keyed : AllShown calls.RecordByKey (0 ∷ 14 ∷ 2 ∷ 1 ∷ 19 ∷ [])
 unfolding calls.leaves record_read_told node_of read_key zeros alone keep
 keyed =
-    (calls.record-by-key (lent newly) [] seven Nobody, seen-good (λ a. (record_read_told a).number) (rec.Refused BadTable) (λ p. record_by_key_as p Nobody 7 []) (whole newly) (whole-obeys newly newly-obeys) 0 refl)
-    and (calls.record-by-key [] [] seven Nobody, from-bad (λ a. (record_read_told a).number) (rec.Refused BadTable) (record_by_key_as (decode_whole []).kind.profile Nobody 7 []) 14 refl)
-    and (calls.record-by-key (lent []) [] seven Nobody, seen-good (λ a. (record_read_told a).number) (rec.Refused BadTable) (λ p. record_by_key_as p Nobody 7 []) (whole []) (whole-obeys [] none-obeys) 2 refl)
-    and (calls.record-by-key (lent newly) (zeros 33) seven Nobody, seen-good (λ a. (record_read_told a).number) (rec.Refused BadTable) (λ p. record_by_key_as p Nobody 7 (zeros 33)) (whole newly) (whole-obeys newly newly-obeys) 1 refl)
-    and (calls.record-by-key (encode_whole (shared newly)) [] seven Nobody, seen-good (λ a. (record_read_told a).number) (rec.Refused BadTable) (λ p. record_by_key_as p Nobody 7 []) (shared newly) shared-newly-obeys 19 refl)
+    (calls.record-by-key (lent newly) [] seven Nobody, seen-good (λ a. (record_read_told a).number) (Err BadTable) (λ p. record_by_key_as p Nobody 7 []) (whole newly) (whole-obeys newly newly-obeys) 0 refl)
+    and (calls.record-by-key [] [] seven Nobody, from-bad (λ a. (record_read_told a).number) (Err BadTable) (record_by_key_as (decode_whole []).kind.profile Nobody 7 []) 14 refl)
+    and (calls.record-by-key (lent []) [] seven Nobody, seen-good (λ a. (record_read_told a).number) (Err BadTable) (λ p. record_by_key_as p Nobody 7 []) (whole []) (whole-obeys [] none-obeys) 2 refl)
+    and (calls.record-by-key (lent newly) (zeros 33) seven Nobody, seen-good (λ a. (record_read_told a).number) (Err BadTable) (λ p. record_by_key_as p Nobody 7 (zeros 33)) (whole newly) (whole-obeys newly newly-obeys) 1 refl)
+    and (calls.record-by-key (encode_whole (shared newly)) [] seven Nobody, seen-good (λ a. (record_read_told a).number) (Err BadTable) (λ p. record_by_key_as p Nobody 7 []) (shared newly) shared-newly-obeys 19 refl)
     and no_more
 
 all-rows : AllShown calls.NodeRows (0 ∷ 14 ∷ 2 ∷ [])
 unfolding calls.leaves rows_told node_of
 all-rows =
-    (calls.node-rows (lent newly) seven Nobody, seen-good (λ a. (rows_told a).number) (rows.Refused BadTable) (λ p. node_rows_as p Nobody 7) (whole newly) (whole-obeys newly newly-obeys) 0 refl)
-    and (calls.node-rows [] seven Nobody, from-bad (λ a. (rows_told a).number) (rows.Refused BadTable) (node_rows_as (decode_whole []).kind.profile Nobody 7) 14 refl)
-    and (calls.node-rows (lent []) seven Nobody, seen-good (λ a. (rows_told a).number) (rows.Refused BadTable) (λ p. node_rows_as p Nobody 7) (whole []) (whole-obeys [] none-obeys) 2 refl)
+    (calls.node-rows (lent newly) seven Nobody, seen-good (λ a. (rows_told a).number) (Err BadTable) (λ p. node_rows_as p Nobody 7) (whole newly) (whole-obeys newly newly-obeys) 0 refl)
+    and (calls.node-rows [] seven Nobody, from-bad (λ a. (rows_told a).number) (Err BadTable) (node_rows_as (decode_whole []).kind.profile Nobody 7) 14 refl)
+    and (calls.node-rows (lent []) seven Nobody, seen-good (λ a. (rows_told a).number) (Err BadTable) (λ p. node_rows_as p Nobody 7) (whole []) (whole-obeys [] none-obeys) 2 refl)
     and no_more
 
 fronts : AllShown calls.Front (0 ∷ 14 ∷ 2 ∷ [])
 unfolding calls.leaves count_told node_of
 fronts =
-    (calls.front (lent newly) seven Nobody, seen-good (λ a. (count_told a).number) (count.Refused BadTable) (λ p. front_as p Nobody 7) (whole newly) (whole-obeys newly newly-obeys) 0 refl)
-    and (calls.front [] seven Nobody, from-bad (λ a. (count_told a).number) (count.Refused BadTable) (front_as (decode_whole []).kind.profile Nobody 7) 14 refl)
-    and (calls.front (lent []) seven Nobody, seen-good (λ a. (count_told a).number) (count.Refused BadTable) (λ p. front_as p Nobody 7) (whole []) (whole-obeys [] none-obeys) 2 refl)
+    (calls.front (lent newly) seven Nobody, seen-good (λ a. (count_told a).number) (Err BadTable) (λ p. front_as p Nobody 7) (whole newly) (whole-obeys newly newly-obeys) 0 refl)
+    and (calls.front [] seven Nobody, from-bad (λ a. (count_told a).number) (Err BadTable) (front_as (decode_whole []).kind.profile Nobody 7) 14 refl)
+    and (calls.front (lent []) seven Nobody, seen-good (λ a. (count_told a).number) (Err BadTable) (λ p. front_as p Nobody 7) (whole []) (whole-obeys [] none-obeys) 2 refl)
     and no_more
 
 some-rows : AllShown calls.PrefixRows (0 ∷ 14 ∷ 2 ∷ 1 ∷ [])
 unfolding calls.leaves rows_told node_of zeros
 some-rows =
-    (calls.prefix-rows (lent newly) [] seven Nobody, seen-good (λ a. (rows_told a).number) (rows.Refused BadTable) (λ p. prefix_rows_as p Nobody 7 []) (whole newly) (whole-obeys newly newly-obeys) 0 refl)
-    and (calls.prefix-rows [] [] seven Nobody, from-bad (λ a. (rows_told a).number) (rows.Refused BadTable) (prefix_rows_as (decode_whole []).kind.profile Nobody 7 []) 14 refl)
-    and (calls.prefix-rows (lent []) [] seven Nobody, seen-good (λ a. (rows_told a).number) (rows.Refused BadTable) (λ p. prefix_rows_as p Nobody 7 []) (whole []) (whole-obeys [] none-obeys) 2 refl)
-    and (calls.prefix-rows (lent newly) (zeros 33) seven Nobody, seen-good (λ a. (rows_told a).number) (rows.Refused BadTable) (λ p. prefix_rows_as p Nobody 7 (zeros 33)) (whole newly) (whole-obeys newly newly-obeys) 1 refl)
+    (calls.prefix-rows (lent newly) [] seven Nobody, seen-good (λ a. (rows_told a).number) (Err BadTable) (λ p. prefix_rows_as p Nobody 7 []) (whole newly) (whole-obeys newly newly-obeys) 0 refl)
+    and (calls.prefix-rows [] [] seven Nobody, from-bad (λ a. (rows_told a).number) (Err BadTable) (prefix_rows_as (decode_whole []).kind.profile Nobody 7 []) 14 refl)
+    and (calls.prefix-rows (lent []) [] seven Nobody, seen-good (λ a. (rows_told a).number) (Err BadTable) (λ p. prefix_rows_as p Nobody 7 []) (whole []) (whole-obeys [] none-obeys) 2 refl)
+    and (calls.prefix-rows (lent newly) (zeros 33) seven Nobody, seen-good (λ a. (rows_told a).number) (Err BadTable) (λ p. prefix_rows_as p Nobody 7 (zeros 33)) (whole newly) (whole-obeys newly newly-obeys) 1 refl)
     and no_more
 
 texts : AllShown calls.FindText (0 ∷ 14 ∷ 2 ∷ 8 ∷ [])
 unfolding calls.leaves found_told node_of element_at
 texts =
-    (calls.find-text (lent usual) seven 0 text.Key Nobody, seen-good (λ a. (found_told a).number) (found.Refused BadTable) (λ p. text_found_as p Nobody text.Key 7 0) (whole usual) (whole-obeys usual usual-obeys) 0 refl)
-    and (calls.find-text [] seven 0 text.Key Nobody, from-bad (λ a. (found_told a).number) (found.Refused BadTable) (text_found_as (decode_whole []).kind.profile Nobody text.Key 7 0) 14 refl)
-    and (calls.find-text (lent []) seven 0 text.Key Nobody, seen-good (λ a. (found_told a).number) (found.Refused BadTable) (λ p. text_found_as p Nobody text.Key 7 0) (whole []) (whole-obeys [] none-obeys) 2 refl)
-    and (calls.find-text (lent newly) seven 0 text.Key Nobody, seen-good (λ a. (found_told a).number) (found.Refused BadTable) (λ p. text_found_as p Nobody text.Key 7 0) (whole newly) (whole-obeys newly newly-obeys) 8 refl)
+    (calls.find-text (lent usual) seven 0 text.Key Nobody, seen-good (λ a. (found_told a).number) (Err BadTable) (λ p. text_found_as p Nobody text.Key 7 0) (whole usual) (whole-obeys usual usual-obeys) 0 refl)
+    and (calls.find-text [] seven 0 text.Key Nobody, from-bad (λ a. (found_told a).number) (Err BadTable) (text_found_as (decode_whole []).kind.profile Nobody text.Key 7 0) 14 refl)
+    and (calls.find-text (lent []) seven 0 text.Key Nobody, seen-good (λ a. (found_told a).number) (Err BadTable) (λ p. text_found_as p Nobody text.Key 7 0) (whole []) (whole-obeys [] none-obeys) 2 refl)
+    and (calls.find-text (lent newly) seven 0 text.Key Nobody, seen-good (λ a. (found_told a).number) (Err BadTable) (λ p. text_found_as p Nobody text.Key 7 0) (whole newly) (whole-obeys newly newly-obeys) 8 refl)
     and no_more
 
 -- ---- digests
@@ -785,10 +767,10 @@ texts =
 digests : AllShown calls.WriteDigest (0 ∷ 14 ∷ 20 ∷ 8 ∷ [])
 unfolding calls.leaves written_told write_digest digest_of digest_bytes head_width zeros bytes_of flat
 digests =
-    (calls.write-digest (lent []) 0 [] (zeros 2) 0, from-good (λ (a : Given Written Bytes). (written_told a.answer).number) (given (written.Refused BadTable) (zeros 2)) (λ t. write_digest 0 [] 0 t (zeros 2)) [] none-obeys 0 refl)
-    and (calls.write-digest [] 0 [] [] 0, from-bad (λ (a : Given Written Bytes). (written_told a.answer).number) (given (written.Refused BadTable) []) (λ t. write_digest 0 [] 0 t []) 14 refl)
-    and (calls.write-digest (lent []) 2 [] [] 0, from-good (λ (a : Given Written Bytes). (written_told a.answer).number) (given (written.Refused BadTable) []) (λ t. write_digest 2 [] 0 t []) [] none-obeys 20 refl)
-    and (calls.write-digest (lent []) 0 [] [] 0, from-good (λ (a : Given Written Bytes). (written_told a.answer).number) (given (written.Refused BadTable) []) (λ t. write_digest 0 [] 0 t []) [] none-obeys 8 refl)
+    (calls.write-digest (lent []) 0 [] (zeros 2) 0, from-good (λ (a : Given (Result ℕ Refusal) Bytes). (written_told a.answer).number) (given (Err BadTable) (zeros 2)) (λ t. write_digest 0 [] 0 t (zeros 2)) [] none-obeys 0 refl)
+    and (calls.write-digest [] 0 [] [] 0, from-bad (λ (a : Given (Result ℕ Refusal) Bytes). (written_told a.answer).number) (given (Err BadTable) []) (λ t. write_digest 0 [] 0 t []) 14 refl)
+    and (calls.write-digest (lent []) 2 [] [] 0, from-good (λ (a : Given (Result ℕ Refusal) Bytes). (written_told a.answer).number) (given (Err BadTable) []) (λ t. write_digest 2 [] 0 t []) [] none-obeys 20 refl)
+    and (calls.write-digest (lent []) 0 [] [] 0, from-good (λ (a : Given (Result ℕ Refusal) Bytes). (written_told a.answer).number) (given (Err BadTable) []) (λ t. write_digest 0 [] 0 t []) [] none-obeys 8 refl)
     and no_more
 
 digest-reads : AllShown calls.ReadDigest (0 ∷ 20 ∷ 9 ∷ 13 ∷ [])
@@ -815,39 +797,39 @@ entries =
 computes : AllShown calls.Compute (0 ∷ 14 ∷ 20 ∷ 7 ∷ 8 ∷ 15 ∷ 9 ∷ 13 ∷ [])
 unfolding calls.leaves computed_told computing.compute read_digest read_entries nat_of unblock tell_all zeros
 computes =
-    (calls.compute (lent []) 0 (0 ∷ 0 ∷ []) [] [] (zeros 100) 100 0, from-good (λ (a : Given Computed Bytes). (computed_told a.answer).number) (given (computed.Refused BadTable) (zeros 100)) (λ t. computing.compute 0 [] [] 100 0 (0 ∷ 0 ∷ []) t (zeros 100)) [] none-obeys 0 refl)
-    and (calls.compute [] 0 [] [] [] [] 100 0, from-bad (λ (a : Given Computed Bytes). (computed_told a.answer).number) (given (computed.Refused BadTable) []) (λ t. computing.compute 0 [] [] 100 0 [] t []) 14 refl)
-    and (calls.compute (lent []) 2 [] [] [] [] 99 0, from-good (λ (a : Given Computed Bytes). (computed_told a.answer).number) (given (computed.Refused BadTable) []) (λ t. computing.compute 2 [] [] 99 0 [] t []) [] none-obeys 20 refl)
-    and (calls.compute (lent []) 0 [] [] [] [] 99 0, from-good (λ (a : Given Computed Bytes). (computed_told a.answer).number) (given (computed.Refused BadTable) []) (λ t. computing.compute 0 [] [] 99 0 [] t []) [] none-obeys 7 refl)
-    and (calls.compute (lent []) 0 [] [] [] [] 100 0, from-good (λ (a : Given Computed Bytes). (computed_told a.answer).number) (given (computed.Refused BadTable) []) (λ t. computing.compute 0 [] [] 100 0 [] t []) [] none-obeys 8 refl)
-    and (calls.compute (lent []) 0 [] [] (0 ∷ []) (zeros 100) 100 0, from-good (λ (a : Given Computed Bytes). (computed_told a.answer).number) (given (computed.Refused BadTable) (zeros 100)) (λ t. computing.compute 0 [] (0 ∷ []) 100 0 [] t (zeros 100)) [] none-obeys 15 refl)
-    and (calls.compute (lent []) 0 [] [] [] (zeros 100) 100 0, from-good (λ (a : Given Computed Bytes). (computed_told a.answer).number) (given (computed.Refused BadTable) (zeros 100)) (λ t. computing.compute 0 [] [] 100 0 [] t (zeros 100)) [] none-obeys 9 refl)
-    and (calls.compute (lent []) 0 (9 ∷ 0 ∷ []) [] [] (zeros 100) 100 0, from-good (λ (a : Given Computed Bytes). (computed_told a.answer).number) (given (computed.Refused BadTable) (zeros 100)) (λ t. computing.compute 0 [] [] 100 0 (9 ∷ 0 ∷ []) t (zeros 100)) [] none-obeys 13 refl)
+    (calls.compute (lent []) 0 (0 ∷ 0 ∷ []) [] [] (zeros 100) 100 0, from-good (λ (a : Given (Result Sent Refusal) Bytes). (computed_told a.answer).number) (given (Err BadTable) (zeros 100)) (λ t. computing.compute 0 [] [] 100 0 (0 ∷ 0 ∷ []) t (zeros 100)) [] none-obeys 0 refl)
+    and (calls.compute [] 0 [] [] [] [] 100 0, from-bad (λ (a : Given (Result Sent Refusal) Bytes). (computed_told a.answer).number) (given (Err BadTable) []) (λ t. computing.compute 0 [] [] 100 0 [] t []) 14 refl)
+    and (calls.compute (lent []) 2 [] [] [] [] 99 0, from-good (λ (a : Given (Result Sent Refusal) Bytes). (computed_told a.answer).number) (given (Err BadTable) []) (λ t. computing.compute 2 [] [] 99 0 [] t []) [] none-obeys 20 refl)
+    and (calls.compute (lent []) 0 [] [] [] [] 99 0, from-good (λ (a : Given (Result Sent Refusal) Bytes). (computed_told a.answer).number) (given (Err BadTable) []) (λ t. computing.compute 0 [] [] 99 0 [] t []) [] none-obeys 7 refl)
+    and (calls.compute (lent []) 0 [] [] [] [] 100 0, from-good (λ (a : Given (Result Sent Refusal) Bytes). (computed_told a.answer).number) (given (Err BadTable) []) (λ t. computing.compute 0 [] [] 100 0 [] t []) [] none-obeys 8 refl)
+    and (calls.compute (lent []) 0 [] [] (0 ∷ []) (zeros 100) 100 0, from-good (λ (a : Given (Result Sent Refusal) Bytes). (computed_told a.answer).number) (given (Err BadTable) (zeros 100)) (λ t. computing.compute 0 [] (0 ∷ []) 100 0 [] t (zeros 100)) [] none-obeys 15 refl)
+    and (calls.compute (lent []) 0 [] [] [] (zeros 100) 100 0, from-good (λ (a : Given (Result Sent Refusal) Bytes). (computed_told a.answer).number) (given (Err BadTable) (zeros 100)) (λ t. computing.compute 0 [] [] 100 0 [] t (zeros 100)) [] none-obeys 9 refl)
+    and (calls.compute (lent []) 0 (9 ∷ 0 ∷ []) [] [] (zeros 100) 100 0, from-good (λ (a : Given (Result Sent Refusal) Bytes). (computed_told a.answer).number) (given (Err BadTable) (zeros 100)) (λ t. computing.compute 0 [] [] 100 0 (9 ∷ 0 ∷ []) t (zeros 100)) [] none-obeys 13 refl)
     and no_more
 
 plans : AllShown calls.ComputePlan (0 ∷ 14 ∷ 20 ∷ 7 ∷ 8 ∷ 9 ∷ 13 ∷ 23 ∷ [])
 unfolding calls.leaves computed_told compute_plan accepts delta_by lines_fit plan_ops differ among delta_bytes flat read_digest read_entries nat_of unblock tell_all zeros
 plans =
-    (calls.compute-plan (lent []) 0 (0 ∷ 0 ∷ []) [] [] [] (zeros 100) 100 0, from-good (λ (a : Given Computed Bytes). (computed_told a.answer).number) (given (computed.Refused BadTable) (zeros 100)) (λ t. compute_plan 0 [] [] [] 100 0 (0 ∷ 0 ∷ []) t (zeros 100)) [] none-obeys 0 refl)
-    and (calls.compute-plan [] 0 [] [] [] [] [] 100 0, from-bad (λ (a : Given Computed Bytes). (computed_told a.answer).number) (given (computed.Refused BadTable) []) (λ t. compute_plan 0 [] [] [] 100 0 [] t []) 14 refl)
-    and (calls.compute-plan (lent []) 2 [] [] [] [] [] 99 0, from-good (λ (a : Given Computed Bytes). (computed_told a.answer).number) (given (computed.Refused BadTable) []) (λ t. compute_plan 2 [] [] [] 99 0 [] t []) [] none-obeys 20 refl)
-    and (calls.compute-plan (lent []) 0 [] [] [] [] [] 99 0, from-good (λ (a : Given Computed Bytes). (computed_told a.answer).number) (given (computed.Refused BadTable) []) (λ t. compute_plan 0 [] [] [] 99 0 [] t []) [] none-obeys 7 refl)
-    and (calls.compute-plan (lent []) 0 [] [] [] [] [] 100 0, from-good (λ (a : Given Computed Bytes). (computed_told a.answer).number) (given (computed.Refused BadTable) []) (λ t. compute_plan 0 [] [] [] 100 0 [] t []) [] none-obeys 8 refl)
-    and (calls.compute-plan (lent []) 0 [] [] [] [] (zeros 100) 100 0, from-good (λ (a : Given Computed Bytes). (computed_told a.answer).number) (given (computed.Refused BadTable) (zeros 100)) (λ t. compute_plan 0 [] [] [] 100 0 [] t (zeros 100)) [] none-obeys 9 refl)
-    and (calls.compute-plan (lent []) 0 (9 ∷ 0 ∷ []) [] [] [] (zeros 100) 100 0, from-good (λ (a : Given Computed Bytes). (computed_told a.answer).number) (given (computed.Refused BadTable) (zeros 100)) (λ t. compute_plan 0 [] [] [] 100 0 (9 ∷ 0 ∷ []) t (zeros 100)) [] none-obeys 13 refl)
-    and (calls.compute-plan (lent []) 0 (0 ∷ 0 ∷ []) [] (1 ∷ []) [] (zeros 100) 100 0, from-good (λ (a : Given Computed Bytes). (computed_told a.answer).number) (given (computed.Refused BadTable) (zeros 100)) (λ t. compute_plan 0 [] (1 ∷ []) [] 100 0 (0 ∷ 0 ∷ []) t (zeros 100)) [] none-obeys 23 refl)
+    (calls.compute-plan (lent []) 0 (0 ∷ 0 ∷ []) [] [] [] (zeros 100) 100 0, from-good (λ (a : Given (Result Sent Refusal) Bytes). (computed_told a.answer).number) (given (Err BadTable) (zeros 100)) (λ t. compute_plan 0 [] [] [] 100 0 (0 ∷ 0 ∷ []) t (zeros 100)) [] none-obeys 0 refl)
+    and (calls.compute-plan [] 0 [] [] [] [] [] 100 0, from-bad (λ (a : Given (Result Sent Refusal) Bytes). (computed_told a.answer).number) (given (Err BadTable) []) (λ t. compute_plan 0 [] [] [] 100 0 [] t []) 14 refl)
+    and (calls.compute-plan (lent []) 2 [] [] [] [] [] 99 0, from-good (λ (a : Given (Result Sent Refusal) Bytes). (computed_told a.answer).number) (given (Err BadTable) []) (λ t. compute_plan 2 [] [] [] 99 0 [] t []) [] none-obeys 20 refl)
+    and (calls.compute-plan (lent []) 0 [] [] [] [] [] 99 0, from-good (λ (a : Given (Result Sent Refusal) Bytes). (computed_told a.answer).number) (given (Err BadTable) []) (λ t. compute_plan 0 [] [] [] 99 0 [] t []) [] none-obeys 7 refl)
+    and (calls.compute-plan (lent []) 0 [] [] [] [] [] 100 0, from-good (λ (a : Given (Result Sent Refusal) Bytes). (computed_told a.answer).number) (given (Err BadTable) []) (λ t. compute_plan 0 [] [] [] 100 0 [] t []) [] none-obeys 8 refl)
+    and (calls.compute-plan (lent []) 0 [] [] [] [] (zeros 100) 100 0, from-good (λ (a : Given (Result Sent Refusal) Bytes). (computed_told a.answer).number) (given (Err BadTable) (zeros 100)) (λ t. compute_plan 0 [] [] [] 100 0 [] t (zeros 100)) [] none-obeys 9 refl)
+    and (calls.compute-plan (lent []) 0 (9 ∷ 0 ∷ []) [] [] [] (zeros 100) 100 0, from-good (λ (a : Given (Result Sent Refusal) Bytes). (computed_told a.answer).number) (given (Err BadTable) (zeros 100)) (λ t. compute_plan 0 [] [] [] 100 0 (9 ∷ 0 ∷ []) t (zeros 100)) [] none-obeys 13 refl)
+    and (calls.compute-plan (lent []) 0 (0 ∷ 0 ∷ []) [] (1 ∷ []) [] (zeros 100) 100 0, from-good (λ (a : Given (Result Sent Refusal) Bytes). (computed_told a.answer).number) (given (Err BadTable) (zeros 100)) (λ t. compute_plan 0 [] (1 ∷ []) [] 100 0 (0 ∷ 0 ∷ []) t (zeros 100)) [] none-obeys 23 refl)
     and no_more
 
 judges : AllShown calls.PlanFault (0 ∷ 14 ∷ 20 ∷ 7 ∷ 9 ∷ 13 ∷ 23 ∷ [])
 unfolding calls.leaves judged_told judge_plan judge judge_from read_digest read_entries nat_of unblock tell_all
 judges =
-    (calls.plan-fault (lent []) 0 (0 ∷ 0 ∷ []) [] [] [] 100, from-good (λ (a : Judged). (judged_told a).number) (judged.Refused BadTable) (judge_plan 0 [] [] [] 100 (0 ∷ 0 ∷ [])) [] none-obeys 0 refl)
-    and (calls.plan-fault [] 0 [] [] [] [] 100, from-bad (λ (a : Judged). (judged_told a).number) (judged.Refused BadTable) (judge_plan 0 [] [] [] 100 []) 14 refl)
-    and (calls.plan-fault (lent []) 2 [] [] [] [] 99, from-good (λ (a : Judged). (judged_told a).number) (judged.Refused BadTable) (judge_plan 2 [] [] [] 99 []) [] none-obeys 20 refl)
-    and (calls.plan-fault (lent []) 0 [] [] [] [] 99, from-good (λ (a : Judged). (judged_told a).number) (judged.Refused BadTable) (judge_plan 0 [] [] [] 99 []) [] none-obeys 7 refl)
-    and (calls.plan-fault (lent []) 0 [] [] [] [] 100, from-good (λ (a : Judged). (judged_told a).number) (judged.Refused BadTable) (judge_plan 0 [] [] [] 100 []) [] none-obeys 9 refl)
-    and (calls.plan-fault (lent []) 0 (9 ∷ 0 ∷ []) [] [] [] 100, from-good (λ (a : Judged). (judged_told a).number) (judged.Refused BadTable) (judge_plan 0 [] [] [] 100 (9 ∷ 0 ∷ [])) [] none-obeys 13 refl)
-    and (calls.plan-fault (lent []) 0 (0 ∷ 0 ∷ []) [] (1 ∷ []) [] 100, from-good (λ (a : Judged). (judged_told a).number) (judged.Refused BadTable) (judge_plan 0 [] (1 ∷ []) [] 100 (0 ∷ 0 ∷ [])) [] none-obeys 23 refl)
+    (calls.plan-fault (lent []) 0 (0 ∷ 0 ∷ []) [] [] [] 100, from-good (λ (a : (Result (Unit {0}) NotSent)). (judged_told a).number) (Err (not_sent.Refused BadTable)) (judge_plan 0 [] [] [] 100 (0 ∷ 0 ∷ [])) [] none-obeys 0 refl)
+    and (calls.plan-fault [] 0 [] [] [] [] 100, from-bad (λ (a : (Result (Unit {0}) NotSent)). (judged_told a).number) (Err (not_sent.Refused BadTable)) (judge_plan 0 [] [] [] 100 []) 14 refl)
+    and (calls.plan-fault (lent []) 2 [] [] [] [] 99, from-good (λ (a : (Result (Unit {0}) NotSent)). (judged_told a).number) (Err (not_sent.Refused BadTable)) (judge_plan 2 [] [] [] 99 []) [] none-obeys 20 refl)
+    and (calls.plan-fault (lent []) 0 [] [] [] [] 99, from-good (λ (a : (Result (Unit {0}) NotSent)). (judged_told a).number) (Err (not_sent.Refused BadTable)) (judge_plan 0 [] [] [] 99 []) [] none-obeys 7 refl)
+    and (calls.plan-fault (lent []) 0 [] [] [] [] 100, from-good (λ (a : (Result (Unit {0}) NotSent)). (judged_told a).number) (Err (not_sent.Refused BadTable)) (judge_plan 0 [] [] [] 100 []) [] none-obeys 9 refl)
+    and (calls.plan-fault (lent []) 0 (9 ∷ 0 ∷ []) [] [] [] 100, from-good (λ (a : (Result (Unit {0}) NotSent)). (judged_told a).number) (Err (not_sent.Refused BadTable)) (judge_plan 0 [] [] [] 100 (9 ∷ 0 ∷ [])) [] none-obeys 13 refl)
+    and (calls.plan-fault (lent []) 0 (0 ∷ 0 ∷ []) [] (1 ∷ []) [] 100, from-good (λ (a : (Result (Unit {0}) NotSent)). (judged_told a).number) (Err (not_sent.Refused BadTable)) (judge_plan 0 [] (1 ∷ []) [] 100 (0 ∷ 0 ∷ [])) [] none-obeys 23 refl)
     and no_more
 
 -- nine Nodes, 0 to 8
@@ -869,7 +851,7 @@ delta-reads =
 
 applying-as : (w : Whole) → obeys_whole w ≡ true → (delta : calls.Received) (answers : Bytes) (n : ℕ) → (applied_told (apply (ways_in w.kind) delta.bytes 7 w.table answers).answer).number ≡ n
     → (applied_told (lent_apply delta.bytes 7 answers (encode_whole w)).answer).number ≡ n
-applying-as w o delta answers n e = ap (λ (x : Given Applied TableAndList). (applied_told x.answer).number) (apply-whole w o delta.bytes 7 answers) ∙ e
+applying-as w o delta answers n e = ap (λ (x : Given (Result ℕ DeltaFault) TableAndList). (applied_told x.answer).number) (apply-whole w o delta.bytes 7 answers) ∙ e
 
 applying : (delta : calls.Received) (answers : Bytes) (n : ℕ) → (applied_told (apply (ways_in (kind mode.Plain Free)) delta.bytes 7 [] answers).answer).number ≡ n
     → (applied_told (lent_apply delta.bytes 7 answers (lent [])).answer).number ≡ n
@@ -881,7 +863,7 @@ odd = NodeOp 7 0 0 ∷ KeyValueOp (record { key = []; value = []; version = 1; s
 
 not-applied : (applied_told (lent_apply [] 7 [] []).answer).number ≡ 14
 unfolding lent_apply_as applied_told
-not-applied = ap (λ (b : Bool). (applied_told (pick b (stored_apply (decode_whole []) (apply (ways_in (decode_whole []).kind) [] 7 (decode_whole []).table [])) (given (applied.Refused BadTable 0) (both [] []))).answer).number) none-valid
+not-applied = ap (λ (b : Bool). (applied_told (pick b (stored_apply (decode_whole []) (apply (ways_in (decode_whole []).kind) [] 7 (decode_whole []).table [])) (given (Err (record { why = BadTable; at = 0 })) (both [] []))).answer).number) none-valid
 
 applies : AllShown calls.Apply (0 ∷ 14 ∷ 13 ∷ 9 ∷ 1 ∷ 10 ∷ 11 ∷ 17 ∷ 19 ∷ 12 ∷ 8 ∷ [])
 unfolding calls.leaves received applied_told apply all read_delta_as read_ops_as meter_key read_op read_node read_key_value read_set_max_version follow nat_of among zeros delta_bytes op_bytes text_bytes flat bytes_of ninth parts_of starts_with
@@ -932,17 +914,17 @@ asked-as : (g : Lending) (p f : Whole) → obeys_whole p ≡ true → obeys_whol
     → ready_for g.edition g.unasked (rooms_of g) (encode_whole p) (encode_whole f) ≡ ready_on g.edition g.unasked (rooms_of g) f.kind.profile (table_formed f.kind.profile p.table) p.table f.table
 unfolding ready_for
 asked-as g p f op of =
-    ap₂ (λ (b c : Bool). pick b (pick c (on (decode_whole (encode_whole p)) (decode_whole (encode_whole f))) (ready.No Delta BadTable)) (ready.No Digest BadTable)) (valid-encode-whole f of) (valid-encode-whole p op)
+    ap₂ (λ (b c : Bool). pick b (pick c (on (decode_whole (encode_whole p)) (decode_whole (encode_whole f))) (Err (record { step = Delta; why = BadTable }))) (Err (record { step = Digest; why = BadTable }))) (valid-encode-whole f of) (valid-encode-whole p op)
     ∙ ap₂ on (decode-encode-whole p op) (decode-encode-whole f of)
   where
-    on : Whole → Whole → Ready
+    on : Whole → Whole → (Result (Unit {0}) Stopped)
     on u v = ready_on g.edition g.unasked (rooms_of g) v.kind.profile (table_formed v.kind.profile u.table) u.table v.table
 
 refused-by : (g : Lending) (p f : Whole) → obeys_whole p ≡ true → obeys_whole f ≡ true → (n : ℕ)
     → (exchanged_told (after_asking g (encode_whole p) (encode_whole f) (ready_on g.edition g.unasked (rooms_of g) f.kind.profile (table_formed f.kind.profile p.table) p.table f.table)).answer).number ≡ n
     → (exchanged_told (lent_exchange g (encode_whole p) (encode_whole f)).answer).number ≡ n
 unfolding lent_exchange
-refused-by g p f op of n e = ap (λ (x : Ready). (exchanged_told (after_asking g (encode_whole p) (encode_whole f) x).answer).number) (asked-as g p f op of) ∙ e
+refused-by g p f op of n e = ap (λ (x : (Result (Unit {0}) Stopped)). (exchanged_told (after_asking g (encode_whole p) (encode_whole f) x).answer).number) (asked-as g p f op of) ∙ e
 
 abbrev formed : Bool
 formed = table_formed Free []
@@ -951,17 +933,17 @@ refused_as : (g : Lending) (n : ℕ) → (exchanged_told (after_asking g (lent [
     → (exchanged_told (lent_exchange g (lent []) (lent [])).answer).number ≡ n
 refused_as g = refused-by g (whole []) (whole []) (whole-obeys [] none-obeys) (whole-obeys [] none-obeys)
 
-done-as : (g : Lending) → ready_on g.edition g.unasked (rooms_of g) Free formed [] [] ≡ ready.Yes → (exchanged_told (lent_exchange g (lent []) (lent [])).answer).number ≡ 0
+done-as : (g : Lending) → ready_on g.edition g.unasked (rooms_of g) Free formed [] [] ≡ done → (exchanged_told (lent_exchange g (lent []) (lent [])).answer).number ≡ 0
 unfolding lent_exchange exchanged_told
 done-as g e =
     let yes = asked-as g (whole []) (whole []) (whole-obeys [] none-obeys) (whole-obeys [] none-obeys) ∙ e in
-    ap (λ (x : Ready). (exchanged_told (after_asking g (lent []) (lent []) x).answer).number) yes
-    ∙ ap (λ (a : Exchanged). (exchanged_told a).number) (ready-done g (lent []) (lent []) (is-ready g (lent []) (lent []) yes))
+    ap (λ (x : (Result (Unit {0}) Stopped)). (exchanged_told (after_asking g (lent []) (lent []) x).answer).number) yes
+    ∙ ap (λ (a : (Result Exchanged Stopped)). (exchanged_told a).number) (ready-done g (lent []) (lent []) (is-ready g (lent []) (lent []) yes))
 
 not-asked : (g : Lending) → (exchanged_told (lent_exchange g [] []).answer).number ≡ 14
 unfolding lent_exchange ready_for exchanged_told
 not-asked g =
-    ap (λ (b : Bool). (exchanged_told (after_asking g [] [] (pick b (pick (valid_whole []) (ready_on g.edition g.unasked (rooms_of g) (decode_whole []).kind.profile (forms_fit [] []) (decode_whole []).table (decode_whole []).table) (ready.No Delta BadTable)) (ready.No Digest BadTable))).answer).number) none-valid
+    ap (λ (b : Bool). (exchanged_told (after_asking g [] [] (pick b (pick (valid_whole []) (ready_on g.edition g.unasked (rooms_of g) (decode_whole []).kind.profile (forms_fit [] []) (decode_whole []).table (decode_whole []).table) (Err (record { step = Delta; why = BadTable }))) (Err (record { step = Digest; why = BadTable })))).answer).number) none-valid
 
 -- a follower that takes readings alone
 abbrev empty-metered : Whole

@@ -18,14 +18,14 @@ use Rattle.rules.specs.Node.{Call, Deleting, DeletingAfterTtl, Setting, SettingT
 use Rattle.rules.specs.Profile.{Kind, kind, profile_obeys}
 use Rattle.rules.specs.Sizes.{numbers}
 use Rattle.rules.specs.Table.{Table, numbers_of, obeys}
-use Rattle.rules.specs.declared.Answer.TheVariants as plain
-use Rattle.rules.specs.declared.Applied.TheVariants as applied
-use Rattle.rules.specs.declared.Computed.{Computed}
-use Rattle.rules.specs.declared.Offered.TheVariants as offered
+use Rattle.std.specs.Prelude.{Err, Ok, Result}
+use Rattle.exchange_ask.specs.declared.Stopped.{Stopped}
+use Rattle.rules.specs.declared.Refusal.{Refusal}
+use Rattle.rules.specs.declared.Sent.{Sent}
+use Rattle.rules.specs.Results.{done}
 use Rattle.rules.specs.declared.Party.{Party}
 use Rattle.rules.specs.declared.Profile.{Profile}
 use Rattle.rules.specs.declared.Refusal.TheVariants.{BadTable}
-use Rattle.rules.specs.declared.Written.{Written}
 use Rattle.rules.proofs.Accepted.{computed-chain, computed-small}
 use Rattle.rules.proofs.Calls.{apply-keeps, beat-keeps, call-keeps, gc-keeps, none-obeys, numbers-beat, numbers-call, numbers-offer, offer-keeps, ok-each}
 use Rattle.rules.proofs.Formed.{empty-formed}
@@ -49,8 +49,6 @@ use Rattle.grid.specs.LentGrid.{GridAndTable, lent_careful, lent_column_in, lent
 use Rattle.grid_kept.proofs.LentKept.{both-grid, both-table, careful-bad, careful-together, in-bad, in-together, new-keeps, out-bad, out-together, take-out-keeps, tell-keeps}
 use Rattle.exchange.specs.Exchanging.{Lending, after_asking, after_computing, after_digesting, lent_answer, lent_exchange, rooms_of, three_calls, lending}
 use Rattle.exchange_ask.specs.Asking.{ready_for}
-use Rattle.exchange_ask.specs.declared.Ready.{Ready}
-use Rattle.exchange_ask.specs.declared.Ready.TheVariants as ready
 use Rattle.exchange.proofs.Refusing.{IsReady, delta-made, delta-read, digest-told, ds, is-ready, sent}
 use Rattle.demand1.specs.Calls as calls
 use Rattle.demand1.specs.Demand1.{obey_all}
@@ -92,7 +90,7 @@ made : (m : Kind) (l : Bytes) → valid_whole l ≡ true → valid_whole (lent_m
 unfolding lent_made lent_new
 made m l v = go (eqb (length l) whole_width)
   where
-    go : (b : Bool) → valid_whole (pick b (given plain.Done (lent_new m)) (given (plain.Refused BadTable) l)).lent ≡ true
+    go : (b : Bool) → valid_whole (pick b (given done (lent_new m)) (given (Err BadTable) l)).lent ≡ true
     go true = valid-encode-whole (record { kind = m; memory = []; table = [] }) (without-memory m [] none-obeys (empty-formed m.profile))
     go false = v
 
@@ -127,7 +125,7 @@ applying : (delta : Bytes) (now : ℕ) (answers l : Bytes) → valid_whole l ≡
 unfolding lent_apply_as
 applying delta now answers l v f =
     let o = apply (ways_in (decode_whole l).kind) delta now (decode_whole l).table answers in
-    ap (λ (b : Bool). valid_whole (pick b (stored_apply (decode_whole l) o) (given (applied.Refused BadTable 0) (both l answers))).lent.table) v
+    ap (λ (b : Bool). valid_whole (pick b (stored_apply (decode_whole l) o) (given (Err (record { why = BadTable; at = 0 })) (both l answers))).lent.table) v
     ∙ stays l v o.table (f (whole-obeys l v))
     (apply-formed (decode_whole l).kind delta now (decode_whole l).table answers (whole-profile (decode_whole l) (valid.whole-obeys l v)))
     (numbers-apply (ways_in (decode_whole l).kind) delta now (decode_whole l).table answers)
@@ -175,8 +173,8 @@ module _ (g : Lending) (publisher follower : Bytes) (clock : g.clock < numbers) 
   ready-kept r =
       let ok = whole-obeys publisher r.publisher_valid in
       let d = ds g publisher follower r in
-      ap (λ (o : Given Written Bytes). valid_whole (after_digesting g publisher follower o.lent o.answer).lent.follower) (digest-told g publisher follower r)
-      ∙ ap (λ (o : Given Computed Bytes). valid_whole (after_computing g.clock g.answers follower o.lent o.answer).lent.follower) (delta-made g publisher follower r)
+      ap (λ (o : Given (Result ℕ Refusal) Bytes). valid_whole (after_digesting g publisher follower o.lent o.answer).lent.follower) (digest-told g publisher follower r)
+      ∙ ap (λ (o : Given (Result Sent Refusal) Bytes). valid_whole (after_computing g.clock g.answers follower o.lent o.answer).lent.follower) (delta-made g publisher follower r)
       ∙ applying _ g.clock g.answers follower r.follower_valid
       (read_keeps (decode_whole follower).kind _ (sent g publisher follower r) g.clock g.answers (decode_whole follower).table clock (delta-read g publisher follower r)
       (parts-ok (sent g publisher follower r) nothing_read (computed-chain g.unsent g.ties d (decode_whole publisher).table ok g.mtu)
@@ -186,9 +184,9 @@ module _ (g : Lending) (publisher follower : Bytes) (clock : g.clock < numbers) 
   unfolding lent_exchange
   exchanged v = go (ready_for g.edition g.unasked (rooms_of g) publisher follower) refl
     where
-      go : (x : Ready) → ready_for g.edition g.unasked (rooms_of g) publisher follower ≡ x → valid_whole (after_asking g publisher follower x).lent.follower ≡ true
-      go ready.Yes e = ready-kept (is-ready g publisher follower e)
-      go (ready.No s r) e = v
+      go : (x : (Result (Unit {0}) Stopped)) → ready_for g.edition g.unasked (rooms_of g) publisher follower ≡ x → valid_whole (after_asking g publisher follower x).lent.follower ≡ true
+      go (Ok _) e = ready-kept (is-ready g publisher follower e)
+      go (Err s) e = v
 
 -- ---- all calls
 
@@ -229,26 +227,26 @@ pub obeying : {k : calls.Kind} (c : calls.Call k)
     → obey_all (calls.checks k) (calls.leaves c).lent ≡ true
 unfolding calls.leaves calls.lent_to obey_all
 obeying (calls.new-table t m p) = one t _ (made (kind m p) t)
-obeying (calls.add-node t i) = one t _ (kept_whole (plain.Refused BadTable) (add_whole i.value) (λ w o. add-keeps-whole w o i.value i.fits) t)
-obeying (calls.remove-node t i) = one t _ (kept_whole (plain.Refused BadTable) (remove_whole i.value) (λ w o. remove-keeps-whole w o i.value) t)
+obeying (calls.add-node t i) = one t _ (kept_whole (Err BadTable) (add_whole i.value) (λ w o. add-keeps-whole w o i.value i.fits) t)
+obeying (calls.remove-node t i) = one t _ (kept_whole (Err BadTable) (remove_whole i.value) (λ w o. remove-keeps-whole w o i.value) t)
 obeying (calls.last-heartbeat t i) = λ e. e
 obeying (calls.write t k v i wanted now who) =
     let p = profile_in t in
-    one t _ (kept (plain.Refused BadTable) (write_as p who wanted.value v now.value i.value k) (λ t. write-keeps-as p who wanted.value v now.value i.value k t now.fits) (numbers-write p who wanted.value v now.value i.value k) t
+    one t _ (kept (Err BadTable) (write_as p who wanted.value v now.value i.value k) (λ t. write-keeps-as p who wanted.value v now.value i.value k t now.fits) (numbers-write p who wanted.value v now.value i.value k) t
     (write-formed p who wanted.value v now.value i.value k))
 obeying (calls.delete t k i now who) =
     let p = profile_in t in
     let c = Deleting now.value in
-    one t _ (kept (plain.Refused BadTable) (call_as p who c i.value k) (λ t. call-keeps-as p who c i.value k t now.fits) (numbers-call-as p who c i.value k) t (call-formed p who c i.value k))
+    one t _ (kept (Err BadTable) (call_as p who c i.value k) (λ t. call-keeps-as p who c i.value k t now.fits) (numbers-call-as p who c i.value k) t (call-formed p who c i.value k))
 obeying (calls.delete-after-ttl t k i now who) =
     let p = profile_in t in
     let c = DeletingAfterTtl now.value in
-    one t _ (kept (plain.Refused BadTable) (call_as p who c i.value k) (λ t. call-keeps-as p who c i.value k t now.fits) (numbers-call-as p who c i.value k) t (call-formed p who c i.value k))
+    one t _ (kept (Err BadTable) (call_as p who c i.value k) (λ t. call-keeps-as p who c i.value k t now.fits) (numbers-call-as p who c i.value k) t (call-formed p who c i.value k))
 obeying (calls.remove-scheduled t now grace) =
-    one t _ (kept (plain.Refused BadTable) (gc now.value grace.value) (gc-keeps now.value grace.value) (numbers-gc now.value grace.value) t (λ u ok. gc-formed (profile_in t) now.value grace.value u))
+    one t _ (kept (Err BadTable) (gc now.value grace.value) (gc-keeps now.value grace.value) (numbers-gc now.value grace.value) t (λ u ok. gc-formed (profile_in t) now.value grace.value u))
 obeying (calls.offer-heartbeat t i h) =
-    one t _ (kept (offered.Refused BadTable) (offer i.value (beats h.value)) (λ t. offer-keeps i.value (beats h.value) t h.fits) (numbers-offer i.value (beats h.value)) t (λ u ok. offer-formed (profile_in t) i.value (beats h.value) u))
-obeying (calls.local-beat t i) = one t _ (kept (plain.Refused BadTable) (local_beat i.value) (beat-keeps i.value) (numbers-beat i.value) t (λ u ok. beat-formed (profile_in t) i.value u))
+    one t _ (kept (Err BadTable) (offer i.value (beats h.value)) (λ t. offer-keeps i.value (beats h.value) t h.fits) (numbers-offer i.value (beats h.value)) t (λ u ok. offer-formed (profile_in t) i.value (beats h.value) u))
+obeying (calls.local-beat t i) = one t _ (kept (Err BadTable) (local_beat i.value) (beat-keeps i.value) (numbers-beat i.value) t (λ u ok. beat-formed (profile_in t) i.value u))
 obeying (calls.find t k i who) = λ e. e
 obeying (calls.list-prefix t k out i who) = λ e. e
 obeying (calls.new-overrides o i) = over o _ (λ v. over-new-keeps i.value o i.fits (over-long o v))

@@ -14,12 +14,12 @@ use Rattle.rules.specs.Node.{Deleting, DeletingAfterTtl, beats}
 use Rattle.rules.specs.Table.{Table}
 use Rattle.rules.specs.Whole.{decode_memory, decode_whole, encode_whole, tail_of, valid_whole, with_table}
 use Rattle.rules.specs.Lent.{both, lent_apply, lent_apply_as, on_table, stored_apply, stored_in}
-use Rattle.rules.specs.declared.Answer.TheVariants as plain
-use Rattle.rules.specs.declared.Applied.TheVariants as applied
-use Rattle.rules.specs.declared.Computed.{Computed}
-use Rattle.rules.specs.declared.Offered.TheVariants as offered
+use Rattle.std.specs.Prelude.{Err, Ok, Result}
+use Rattle.exchange_ask.specs.declared.Stopped.{Stopped}
+use Rattle.rules.specs.declared.Refusal.{Refusal}
+use Rattle.rules.specs.declared.Sent.{Sent}
+use Rattle.rules.specs.Results.{done}
 use Rattle.rules.specs.declared.Refusal.TheVariants.{BadTable, NobodyPresent}
-use Rattle.rules.specs.declared.Written.{Written}
 use Rattle.rules.proofs.Refusing.{whole-bytes}
 use Rattle.table.proofs.Wholes.{whole-tail}
 use Rattle.grid.specs.Grid.{somebody}
@@ -28,8 +28,6 @@ use Rattle.grid.specs.LentGrid.{carefully_removed, lent_careful, valid_both}
 use Rattle.grid_kept.proofs.LentKept.{both-table}
 use Rattle.exchange.specs.Exchanging.{Lending, after_asking, after_computing, after_digesting, lent_answer, lent_exchange, lending, rooms_of, three_calls}
 use Rattle.exchange_ask.specs.Asking.{ready_for}
-use Rattle.exchange_ask.specs.declared.Ready.{Ready}
-use Rattle.exchange_ask.specs.declared.Ready.TheVariants as ready
 use Rattle.exchange.proofs.Refusing.{IsReady, delta-made, digest-told, is-ready}
 use Rattle.demand1.specs.Calls as calls
 use Rattle.demand1.specs.Demand1.{memories_in}
@@ -58,7 +56,7 @@ unfolding lent_apply_as
 applying delta now answers l = go (valid_whole l) refl
   where
     go : (b : Bool) → valid_whole l ≡ b
-        → memory_in (pick b (stored_apply (decode_whole l) (apply (ways_in (decode_whole l).kind) delta now (decode_whole l).table answers)) (given (applied.Refused BadTable 0) (both l answers))).lent.table ≡ memory_in l
+        → memory_in (pick b (stored_apply (decode_whole l) (apply (ways_in (decode_whole l).kind) delta now (decode_whole l).table answers)) (given (Err (record { why = BadTable; at = 0 })) (both l answers))).lent.table ≡ memory_in l
     go true v = tail-stays l v _
     go false v = refl
 
@@ -67,7 +65,7 @@ unfolding lent_careful
 carefully now grace g l = go (valid_both g l) refl (somebody (decode_grid g))
   where
     go : (b : Bool) → valid_both g l ≡ b → (c : Bool)
-        → memory_in (pick b (pick c (given plain.Done (encode_whole (with_table (carefully_removed (decode_grid g) now grace (decode_whole l).table) (decode_whole l)))) (given (plain.Refused NobodyPresent) l)) (given (plain.Refused BadTable) l)).lent ≡ memory_in l
+        → memory_in (pick b (pick c (given done (encode_whole (with_table (carefully_removed (decode_grid g) now grace (decode_whole l).table) (decode_whole l)))) (given (Err NobodyPresent) l)) (given (Err BadTable) l)).lent ≡ memory_in l
     go true v true = tail-stays l (both-table g l v) _
     go true v false = refl
     go false v c = refl
@@ -76,17 +74,17 @@ module _ (g : Lending) (publisher follower : Bytes) where
   ready-stays : IsReady g publisher follower → memory_in (three_calls g publisher follower).lent.follower ≡ memory_in follower
   unfolding three_calls lent_answer
   ready-stays r =
-      ap (λ (o : Given Written Bytes). memory_in (after_digesting g publisher follower o.lent o.answer).lent.follower) (digest-told g publisher follower r)
-      ∙ ap (λ (o : Given Computed Bytes). memory_in (after_computing g.clock g.answers follower o.lent o.answer).lent.follower) (delta-made g publisher follower r)
+      ap (λ (o : Given (Result ℕ Refusal) Bytes). memory_in (after_digesting g publisher follower o.lent o.answer).lent.follower) (digest-told g publisher follower r)
+      ∙ ap (λ (o : Given (Result Sent Refusal) Bytes). memory_in (after_computing g.clock g.answers follower o.lent o.answer).lent.follower) (delta-made g publisher follower r)
       ∙ applying _ g.clock g.answers follower
 
   exchanged : memory_in (lent_exchange g publisher follower).lent.follower ≡ memory_in follower
   unfolding lent_exchange
   exchanged = go (ready_for g.edition g.unasked (rooms_of g) publisher follower) refl
     where
-      go : (x : Ready) → ready_for g.edition g.unasked (rooms_of g) publisher follower ≡ x → memory_in (after_asking g publisher follower x).lent.follower ≡ memory_in follower
-      go ready.Yes e = ready-stays (is-ready g publisher follower e)
-      go (ready.No s r) e = refl
+      go : (x : (Result (Unit {0}) Stopped)) → ready_for g.edition g.unasked (rooms_of g) publisher follower ≡ x → memory_in (after_asking g publisher follower x).lent.follower ≡ memory_in follower
+      go (Ok _) e = ready-stays (is-ready g publisher follower e)
+      go (Err s) e = refl
 
 -- ---- all calls
 
@@ -105,12 +103,12 @@ remembered (calls.new-table t m p) e = absurd (true≢false e)
 remembered (calls.add-node t i) e = absurd (true≢false e)
 remembered (calls.remove-node t i) e = absurd (true≢false e)
 remembered (calls.last-heartbeat t i) e = refl
-remembered (calls.write t k v i wanted now who) e = one t _ (on-table (plain.Refused BadTable) (write_as (decode_whole t).kind.profile who wanted.value v now.value i.value k) t)
-remembered (calls.delete t k i now who) e = one t _ (on-table (plain.Refused BadTable) (call_as (decode_whole t).kind.profile who (Deleting now.value) i.value k) t)
-remembered (calls.delete-after-ttl t k i now who) e = one t _ (on-table (plain.Refused BadTable) (call_as (decode_whole t).kind.profile who (DeletingAfterTtl now.value) i.value k) t)
-remembered (calls.remove-scheduled t now grace) e = one t _ (on-table (plain.Refused BadTable) (gc now.value grace.value) t)
-remembered (calls.offer-heartbeat t i h) e = one t _ (on-table (offered.Refused BadTable) (offer i.value (beats h.value)) t)
-remembered (calls.local-beat t i) e = one t _ (on-table (plain.Refused BadTable) (local_beat i.value) t)
+remembered (calls.write t k v i wanted now who) e = one t _ (on-table (Err BadTable) (write_as (decode_whole t).kind.profile who wanted.value v now.value i.value k) t)
+remembered (calls.delete t k i now who) e = one t _ (on-table (Err BadTable) (call_as (decode_whole t).kind.profile who (Deleting now.value) i.value k) t)
+remembered (calls.delete-after-ttl t k i now who) e = one t _ (on-table (Err BadTable) (call_as (decode_whole t).kind.profile who (DeletingAfterTtl now.value) i.value k) t)
+remembered (calls.remove-scheduled t now grace) e = one t _ (on-table (Err BadTable) (gc now.value grace.value) t)
+remembered (calls.offer-heartbeat t i h) e = one t _ (on-table (Err BadTable) (offer i.value (beats h.value)) t)
+remembered (calls.local-beat t i) e = one t _ (on-table (Err BadTable) (local_beat i.value) t)
 remembered (calls.find t k i who) e = refl
 remembered (calls.list-prefix t k out i who) e = refl
 remembered (calls.new-overrides o i) e = refl

@@ -25,23 +25,19 @@ use Rattle.rules.specs.Node.{Call, Decision, Deleting, DeletingAfterTtl, Give, L
 use Rattle.rules.specs.Party.{seen, sees}
 use Rattle.rules.specs.Profile.{Kind, kind}
 use Rattle.rules.specs.Table.{Entry, Table, node_of, numbers_of}
-use Rattle.rules.specs.declared.Answer.{Answer}
-use Rattle.rules.specs.declared.Answer.TheVariants as plain
-use Rattle.rules.specs.declared.Applied.{Applied}
-use Rattle.rules.specs.declared.Applied.TheVariants as applied
-use Rattle.rules.specs.declared.Computed.{Computed}
-use Rattle.rules.specs.declared.Computed.TheVariants as computed
-use Rattle.rules.specs.declared.Listed.{Listed}
-use Rattle.rules.specs.declared.Listed.TheVariants as listed
-use Rattle.rules.specs.declared.Offered.{Offered}
-use Rattle.rules.specs.declared.Offered.TheVariants as offered
+use Rattle.std.specs.Prelude.{Err, Ok, Result}
+use Rattle.exchange.specs.declared.Exchanged.{Exchanged}
+use Rattle.exchange_ask.specs.declared.Stopped.{Stopped}
+use Rattle.overrides.specs.declared.RefusedOver.{RefusedOver}
+use Rattle.rules.specs.declared.DeltaFault.{DeltaFault}
+use Rattle.rules.specs.declared.Sent.{Sent}
+use Rattle.rules.specs.Results.{done}
+use Rattle.delta_make.specs.Making.{refused_at}
 use Rattle.rules.specs.declared.Party.{Party}
 use Rattle.rules.specs.declared.Profile.{Profile}
 use Rattle.rules.specs.declared.Refusal.{Refusal}
 use Rattle.rules.specs.declared.Refusal.TheVariants.{BadPeer, BadTable, BadTag, NoPlace, NobodyPresent, TooLong}
 use Rattle.rules.specs.declared.Status.TheVariants.{Set, Ttl}
-use Rattle.rules.specs.declared.Written.{Written}
-use Rattle.rules.specs.declared.Written.TheVariants as written
 use Rattle.rules.proofs.Refusing.{beat-refused, call-as-refused, compute-refused, digest-refused, lent-apply-refused, lent-refused, offer-refused, prefixed-refused, whole-bytes, write-as-refused}
 use Rattle.rules.proofs.Memories.{add-whole-refused, remove-whole-refused, whole-refused}
 use Rattle.nodes.specs.New.{lent_made}
@@ -54,22 +50,16 @@ use Rattle.overrides.specs.declared.Which.TheVariants as which
 use Rattle.overrides.proofs.Valid.{over-back}
 use Rattle.over_list.specs.Merged.{places_of, list_into, list_on, list_over, lent_list_over, listing as merged}
 use Rattle.over_list.specs.Told.{listed_over_told}
-use Rattle.over_list.specs.declared.ListedOver.{ListedOver}
-use Rattle.over_list.specs.declared.ListedOver.TheVariants as over
 use Rattle.grid.specs.Grid.{add_column, drop_column, max_peers, new_grid, somebody, take_out}
 use Rattle.grid.specs.GridLayout.{decode_grid, encode_grid, grid_width, valid_grid}
 use Rattle.grid.specs.LentGrid.{GridAndTable, both as beside, carefully_removed, grid_on, lent_careful, lent_column_in, lent_column_out, lent_new_grid, lent_take_out, lent_tell, tell_on, valid_both}
 use Rattle.grid_kept.proofs.LentKept.{both-table}
-use Rattle.delta_make.specs.declared.Made.TheVariants as making
 use Rattle.listing_read.specs.Unlist.{Delta, Faulty, NotInForm, Unlisted, unlist}
 use Rattle.listing_make.specs.Make.{lent_make, lent_unlisted, made_told, placed}
 use Rattle.plan.proofs.Refusing.{plan-refused}
 use Rattle.plan.specs.Plan.{compute_plan}
 use Rattle.exchange.specs.Exchanging.{ExchangeLent, Lending, after_asking, all_four, exchanged_told, lending, lent_exchange, rooms_of}
 use Rattle.exchange_ask.specs.Asking.{ready_for}
-use Rattle.exchange.specs.declared.Exchanged.{Exchanged}
-use Rattle.exchange_ask.specs.declared.Ready.{Ready}
-use Rattle.exchange_ask.specs.declared.Ready.TheVariants as ready
 use Rattle.exchange.proofs.Refusing.{is-ready, ready-done}
 use Rattle.demand1.specs.Calls as calls
 
@@ -78,36 +68,36 @@ use Rattle.demand1.specs.Calls as calls
 abbrev Refuses : Told → Type 0
 Refuses t = t.number ≡ 0 → ⊥
 
-by_answer : (a : Answer) → Refuses (answer_told a) → (r : Refusal) × (a ≡ plain.Refused r)
+by_answer : (a : (Result (Unit {0}) Refusal)) → Refuses (answer_told a) → (r : Refusal) × (a ≡ Err r)
 unfolding answer_told
-by_answer plain.Done h = absurd (h refl)
-by_answer (plain.Refused r) h = (r, refl)
+by_answer (Ok _) h = absurd (h refl)
+by_answer (Err r) h = (r, refl)
 
-by-offered : (a : Offered) → Refuses (offered_told a) → (r : Refusal) × (a ≡ offered.Refused r)
+by-offered : (a : (Result Bool Refusal)) → Refuses (offered_told a) → (r : Refusal) × (a ≡ Err r)
 unfolding offered_told
-by-offered offered.Yes h = absurd (h refl)
-by-offered offered.No h = absurd (h refl)
-by-offered (offered.Refused r) h = (r, refl)
+by-offered (Ok true) h = absurd (h refl)
+by-offered (Ok false) h = absurd (h refl)
+by-offered (Err r) h = (r, refl)
 
-by-listed : (a : Listed) → Refuses (listed_told a) → (r : Refusal) × (a ≡ listed.Refused r)
+by-listed : (a : (Result ℕ Refusal)) → Refuses (listed_told a) → (r : Refusal) × (a ≡ Err r)
 unfolding listed_told
-by-listed (listed.Hits n) h = absurd (h refl)
-by-listed (listed.Refused r) h = (r, refl)
+by-listed (Ok n) h = absurd (h refl)
+by-listed (Err r) h = (r, refl)
 
-by_written : (a : Written) → Refuses (written_told a) → (r : Refusal) × (a ≡ written.Refused r)
+by_written : (a : (Result ℕ Refusal)) → Refuses (written_told a) → (r : Refusal) × (a ≡ Err r)
 unfolding written_told
-by_written (written.Bytes n) h = absurd (h refl)
-by_written (written.Refused r) h = (r, refl)
+by_written (Ok n) h = absurd (h refl)
+by_written (Err r) h = (r, refl)
 
-by-computed : (a : Computed) → Refuses (computed_told a) → (r : Refusal) × (a ≡ computed.Refused r)
+by-computed : (a : (Result Sent Refusal)) → Refuses (computed_told a) → (r : Refusal) × (a ≡ Err r)
 unfolding computed_told
-by-computed (computed.Delta ops bytes) h = absurd (h refl)
-by-computed (computed.Refused r) h = (r, refl)
+by-computed (Ok s) h = absurd (h refl)
+by-computed (Err r) h = (r, refl)
 
-by-applied : (a : Applied) → Refuses (applied_told a) → (r : Refusal) × (at : ℕ) × (a ≡ applied.Refused r at)
+by-applied : (a : (Result ℕ DeltaFault)) → Refuses (applied_told a) → (r : Refusal) × (at : ℕ) × (a ≡ (Err (record { why = r; at = at })))
 unfolding applied_told
-by-applied (applied.Nodes n) h = absurd (h refl)
-by-applied (applied.Refused r at) h = (r, at, refl)
+by-applied (Ok n) h = absurd (h refl)
+by-applied (Err f) h = (f.why, f.at, refl)
 
 -- ---- calls on a table
 
@@ -139,8 +129,8 @@ made : (m : Kind) (l : Bytes) → Refuses (answer_told (lent_made m l).answer) �
 unfolding lent_made answer_told
 made m l = go (eqb (length l) whole_width)
   where
-    out : Bool → Given Answer Bytes
-    out b = pick b (given plain.Done (lent_new m)) (given (plain.Refused BadTable) l)
+    out : Bool → Given (Result (Unit {0}) Refusal) Bytes
+    out b = pick b (given done (lent_new m)) (given (Err BadTable) l)
 
     go : (b : Bool) → Refuses (answer_told (out b).answer) → (out b).lent ≡ l
     go true h = absurd (h refl)
@@ -154,8 +144,8 @@ shown : (text out : Bytes) → Refuses (written_told (write_bytes text 0 out).an
 unfolding written_told
 shown text l = go (fits_at 0 (length text) l)
   where
-    out : Bool → Given Written Bytes
-    out b = pick b (given (written.Bytes (length text)) (put 0 text l)) (given (written.Refused NoPlace) l)
+    out : Bool → Given (Result ℕ Refusal) Bytes
+    out b = pick b (given (Ok (length text)) (put 0 text l)) (given (Err NoPlace) l)
 
     go : (b : Bool) → Refuses (written_told (out b).answer) → (out b).lent ≡ l
     go true h = absurd (h refl)
@@ -165,8 +155,8 @@ made-delta : (text out : Bytes) → Refuses (made_told (lent_make text out).answ
 unfolding placed made_told
 made-delta text out = go (unlist text)
   where
-    fits : (b : Bytes) (t : Bool) → Refuses (made_told (pick t (given (making.Bytes (length b)) (put 0 b out)) (given (making.Refused NoPlace 0) out)).answer)
-        → (pick t (given (making.Bytes (length b)) (put 0 b out)) (given (making.Refused NoPlace 0) out)).lent ≡ out
+    fits : (b : Bytes) (t : Bool) → Refuses (made_told (pick t (given (Ok (length b)) (put 0 b out)) (given (refused_at NoPlace 0) out)).answer)
+        → (pick t (given (Ok (length b)) (put 0 b out)) (given (refused_at NoPlace 0) out)).lent ≡ out
     fits b true h = absurd (h refl)
     fits b false h = refl
 
@@ -178,13 +168,13 @@ made-delta text out = go (unlist text)
 -- ---- calls on overrides
 
 -- one that changes them
-on-over : (rule : Entry → Given Answer Entry) → ((e : Entry) → Refuses (answer_told (rule e).answer) → (rule e).lent ≡ e) → (o : Bytes)
-    → Refuses (answer_told (on_overrides (plain.Refused BadTable) rule o).answer) → (on_overrides (plain.Refused BadTable) rule o).lent ≡ o
+on-over : (rule : Entry → Given (Result (Unit {0}) Refusal) Entry) → ((e : Entry) → Refuses (answer_told (rule e).answer) → (rule e).lent ≡ e) → (o : Bytes)
+    → Refuses (answer_told (on_overrides (Err BadTable) rule o).answer) → (on_overrides (Err BadTable) rule o).lent ≡ o
 unfolding on_overrides
 on-over rule f o = go (valid_node o) refl
   where
-    out : Bool → Given Answer Bytes
-    out b = pick b (stored_node (rule (decode_node o))) (given (plain.Refused BadTable) o)
+    out : Bool → Given (Result (Unit {0}) Refusal) Bytes
+    out b = pick b (stored_node (rule (decode_node o))) (given (Err BadTable) o)
 
     go : (b : Bool) → valid_node o ≡ b → Refuses (answer_told (out b).answer) → (out b).lent ≡ o
     go true v h = ap encode_node (f (decode_node o) h) ∙ over-back o v
@@ -204,8 +194,8 @@ over-written : (wanted : ℕ) (v : Bytes) (now : ℕ) (k : Bytes) (e : Entry) �
 unfolding overrides.written
 over-written wanted v now k e = go (eqb wanted (status_byte Set)) (eqb wanted (status_byte Ttl))
   where
-    out : Bool → Bool → Given Answer Entry
-    out s t = pick s (called (Setting v) k e) (pick t (called (SettingTtl v now) k e) (given (plain.Refused BadTag) e))
+    out : Bool → Bool → Given (Result (Unit {0}) Refusal) Entry
+    out s t = pick s (called (Setting v) k e) (pick t (called (SettingTtl v now) k e) (given (Err BadTag) e))
 
     go : (s t : Bool) → Refuses (answer_told (out s t).answer) → (out s t).lent ≡ e
     go true t h = over-called (Setting v) k e h
@@ -220,8 +210,8 @@ over-made : (i : ℕ) (o : Bytes) → Refuses (answer_told (lent_new_overrides i
 unfolding lent_new_overrides answer_told
 over-made i o = go (eqb (length o) node_width)
   where
-    out : Bool → Given Answer Bytes
-    out b = pick b (given plain.Done (encode_node (fresh_entry i))) (given (plain.Refused BadTable) o)
+    out : Bool → Given (Result (Unit {0}) Refusal) Bytes
+    out b = pick b (given done (encode_node (fresh_entry i))) (given (Err BadTable) o)
 
     go : (b : Bool) → Refuses (answer_told (out b).answer) → (out b).lent ≡ o
     go true h = absurd (h refl)
@@ -241,13 +231,13 @@ over-listed q i k out o t = go (valid_node o) (valid_whole t)
     u : Table
     u = (decode_whole t).table
 
-    into : (found : Bytes) (b : Bool) → Refuses (listed_over_told (pick b (given (over.Hits (length found)) (put 0 found out)) (given (over.Refused which.Neither NoPlace) out)).answer)
-        → (pick b (given (over.Hits (length found)) (put 0 found out)) (given (over.Refused which.Neither NoPlace) out)).lent ≡ out
+    into : (found : Bytes) (b : Bool) → Refuses (listed_over_told (pick b (given (Ok (length found)) (put 0 found out)) (given (Err (record { which = which.Neither; why = NoPlace })) out)).answer)
+        → (pick {X = Given (Result ℕ RefusedOver) Bytes} b (given (Ok (length found)) (put 0 found out)) (given (Err (record { which = which.Neither; why = NoPlace })) out)).lent ≡ out
     into found true h = absurd (h refl)
     into found false h = refl
 
-    limit : (found : Bytes) (b : Bool) → Refuses (listed_over_told (pick b (list_into found out) (given (over.Refused which.Neither TooLong) out)).answer)
-        → (pick b (list_into found out) (given (over.Refused which.Neither TooLong) out)).lent ≡ out
+    limit : (found : Bytes) (b : Bool) → Refuses (listed_over_told (pick b (list_into found out) (given (Err (record { which = which.Neither; why = TooLong })) out)).answer)
+        → (pick {X = Given (Result ℕ RefusedOver) Bytes} b (list_into found out) (given (Err (record { which = which.Neither; why = TooLong })) out)).lent ≡ out
     limit found true h = into found (leb (length found) (length out)) h
     limit found false h = refl
 
@@ -255,8 +245,8 @@ over-listed q i k out o t = go (valid_node o) (valid_whole t)
     held none h = refl
     held (some m) h = limit (places_of (merged (sees p q) k n.recs m.recs)) (leb (length k) max_key) h
 
-    bad : Which → Given ListedOver Bytes
-    bad w = given (over.Refused w BadTable) out
+    bad : Which → Given (Result ℕ RefusedOver) Bytes
+    bad w = given (Err (record { which = w; why = BadTable })) out
 
     go : (a b : Bool) → Refuses (listed_over_told (pick a (pick b (list_over p q i k out n u) (bad which.Table)) (bad which.Overrides)).answer)
         → (pick a (pick b (list_over p q i k out n u) (bad which.Table)) (bad which.Overrides)).lent ≡ out
@@ -270,26 +260,26 @@ grid-made : (t g : Bytes) → Refuses (answer_told (lent_new_grid t g).answer) �
 unfolding lent_new_grid answer_told
 grid-made t g = go (eqb (length g) grid_width && valid_whole t)
   where
-    out : Bool → Given Answer Bytes
-    out b = pick b (given plain.Done (encode_grid (new_grid (numbers_of (decode_whole t).table)))) (given (plain.Refused BadTable) g)
+    out : Bool → Given (Result (Unit {0}) Refusal) Bytes
+    out b = pick b (given done (encode_grid (new_grid (numbers_of (decode_whole t).table)))) (given (Err BadTable) g)
 
     go : (b : Bool) → Refuses (answer_told (out b).answer) → (out b).lent ≡ g
     go true h = absurd (h refl)
     go false h = refl
 
 -- a refused node leaves the table, and the grid goes with it
-with-column : (g t : Bytes) (o : Given Answer Whole) (after : Bytes) → ((r : Refusal) → o.answer ≡ plain.Refused r → o.lent ≡ decode_whole t)
-    → Refuses (answer_told (pick (valid_both g t) (given o.answer (beside (grid_on o.answer after g) (encode_whole o.lent))) (given (plain.Refused BadTable) (beside g t))).answer)
-    → (pick (valid_both g t) (given o.answer (beside (grid_on o.answer after g) (encode_whole o.lent))) (given (plain.Refused BadTable) (beside g t))).lent ≡ beside g t
+with-column : (g t : Bytes) (o : Given (Result (Unit {0}) Refusal) Whole) (after : Bytes) → ((r : Refusal) → o.answer ≡ Err r → o.lent ≡ decode_whole t)
+    → Refuses (answer_told (pick (valid_both g t) (given o.answer (beside (grid_on o.answer after g) (encode_whole o.lent))) (given (Err BadTable) (beside g t))).answer)
+    → (pick (valid_both g t) (given o.answer (beside (grid_on o.answer after g) (encode_whole o.lent))) (given (Err BadTable) (beside g t))).lent ≡ beside g t
 with-column g t o after f = go (valid_both g t) refl
   where
-    out : Bool → Given Answer GridAndTable
-    out b = pick b (given o.answer (beside (grid_on o.answer after g) (encode_whole o.lent))) (given (plain.Refused BadTable) (beside g t))
+    out : Bool → Given (Result (Unit {0}) Refusal) GridAndTable
+    out b = pick b (given o.answer (beside (grid_on o.answer after g) (encode_whole o.lent))) (given (Err BadTable) (beside g t))
 
     go : (b : Bool) → valid_both g t ≡ b → Refuses (answer_told (out b).answer) → (out b).lent ≡ beside g t
     go true v h =
         let x = by_answer o.answer h in
-        let a : grid_on o.answer after g ≡ g = ap (λ (y : Answer). grid_on y after g) x.1 in
+        let a : grid_on o.answer after g ≡ g = ap (λ (y : (Result (Unit {0}) Refusal)). grid_on y after g) x.1 in
         let b : encode_whole o.lent ≡ t = ap encode_whole (f x.0 x.1) ∙ whole-bytes t (both-table g t v) in
         λ z. beside (a z) (b z)
     go false v h = refl
@@ -307,8 +297,8 @@ was-told : (p edition : ℕ) (digest g : Bytes) → Refuses (answer_told (lent_t
 unfolding lent_tell answer_told
 was-told p edition digest g = go (valid_grid g) (ltb p max_peers) (read_digest edition digest)
   where
-    out : Bool → Bool → DigestRead → Given Answer Bytes
-    out b c r = pick b (pick c (tell_on p r g) (given (plain.Refused BadPeer) g)) (given (plain.Refused BadTable) g)
+    out : Bool → Bool → DigestRead → Given (Result (Unit {0}) Refusal) Bytes
+    out b c r = pick b (pick c (tell_on p r g) (given (Err BadPeer) g)) (given (Err BadTable) g)
 
     go : (b c : Bool) (r : DigestRead) → Refuses (answer_told (out b c r).answer) → (out b c r).lent ≡ g
     go true true (Entries ds rest) h = absurd (h refl)
@@ -320,8 +310,8 @@ taken_out : (p : ℕ) (g : Bytes) → Refuses (answer_told (lent_take_out p g).a
 unfolding lent_take_out answer_told
 taken_out p g = go (valid_grid g) (ltb p max_peers)
   where
-    out : Bool → Bool → Given Answer Bytes
-    out b c = pick b (pick c (given plain.Done (encode_grid (take_out p (decode_grid g)))) (given (plain.Refused BadPeer) g)) (given (plain.Refused BadTable) g)
+    out : Bool → Bool → Given (Result (Unit {0}) Refusal) Bytes
+    out b c = pick b (pick c (given done (encode_grid (take_out p (decode_grid g)))) (given (Err BadPeer) g)) (given (Err BadTable) g)
 
     go : (b c : Bool) → Refuses (answer_told (out b c).answer) → (out b c).lent ≡ g
     go true true h = absurd (h refl)
@@ -332,11 +322,11 @@ carefully : (now grace : ℕ) (g t : Bytes) → Refuses (answer_told (lent_caref
 unfolding lent_careful answer_told
 carefully now grace g t = go (valid_both g t) (somebody (decode_grid g))
   where
-    out : Bool → Bool → Given Answer Bytes
+    out : Bool → Bool → Given (Result (Unit {0}) Refusal) Bytes
     out b c =
         pick b
-        (pick c (given plain.Done (encode_whole (with_table (carefully_removed (decode_grid g) now grace (decode_whole t).table) (decode_whole t)))) (given (plain.Refused NobodyPresent) t))
-        (given (plain.Refused BadTable) t)
+        (pick c (given done (encode_whole (with_table (carefully_removed (decode_grid g) now grace (decode_whole t).table) (decode_whole t)))) (given (Err NobodyPresent) t))
+        (given (Err BadTable) t)
 
     go : (b c : Bool) → Refuses (answer_told (out b c).answer) → (out b c).lent ≡ t
     go true true h = absurd (h refl)
@@ -349,14 +339,14 @@ exchanged : (g : Lending) (publisher follower : Bytes) → Refuses (exchanged_to
 unfolding lent_exchange exchanged_told
 exchanged g publisher follower = go (ready_for g.edition g.unasked (rooms_of g) publisher follower) refl
   where
-    go : (x : Ready) → ready_for g.edition g.unasked (rooms_of g) publisher follower ≡ x
+    go : (x : (Result (Unit {0}) Stopped)) → ready_for g.edition g.unasked (rooms_of g) publisher follower ≡ x
         → Refuses (exchanged_told (after_asking g publisher follower x).answer)
         → (after_asking g publisher follower x).lent ≡ all_four follower g.digest g.delta g.answers
-    go ready.Yes e h = absurd (h (ap (λ (a : Exchanged). (exchanged_told a).number) (ready-done g publisher follower (is-ready g publisher follower e))))
-    go (ready.No s r) e h = refl
+    go (Ok _) e h = absurd (h (ap (λ (a : (Result Exchanged Stopped)). (exchanged_told a).number) (ready-done g publisher follower (is-ready g publisher follower e))))
+    go (Err s) e h = refl
 
 -- a listing by a party: that of what it sees
-listed-refused : (p : Profile) (q : Party) (i : ℕ) (k : Bytes) (t : Table) (l : Bytes) (r : Refusal) → (prefixed_as p q i k t l).answer ≡ listed.Refused r
+listed-refused : (p : Profile) (q : Party) (i : ℕ) (k : Bytes) (t : Table) (l : Bytes) (r : Refusal) → (prefixed_as p q i k t l).answer ≡ Err r
     → (prefixed_as p q i k t l).lent ≡ l
 unfolding prefixed_as
 listed-refused p q i k t = prefixed-refused i k (seen p q t)
@@ -368,40 +358,40 @@ unfolding calls.leaves calls.lent_to
 nothing (calls.new-table t m p) h = ap (λ (u : Bytes). u ∷ []) (made (kind m p) t h)
 nothing (calls.add-node t i) h =
     ap (λ (u : Bytes). u ∷ [])
-    (whole-refused (plain.Refused BadTable) (add_whole i.value) (λ a. Refuses (answer_told a)) (λ w g. let x = by_answer _ g in add-whole-refused i.value w x.0 x.1) t h)
+    (whole-refused (Err BadTable) (add_whole i.value) (λ a. Refuses (answer_told a)) (λ w g. let x = by_answer _ g in add-whole-refused i.value w x.0 x.1) t h)
 nothing (calls.remove-node t i) h =
     ap (λ (u : Bytes). u ∷ [])
-    (whole-refused (plain.Refused BadTable) (remove_whole i.value) (λ a. Refuses (answer_told a)) (λ w g. let x = by_answer _ g in remove-whole-refused i.value w x.0 x.1) t h)
+    (whole-refused (Err BadTable) (remove_whole i.value) (λ a. Refuses (answer_told a)) (λ w g. let x = by_answer _ g in remove-whole-refused i.value w x.0 x.1) t h)
 nothing (calls.last-heartbeat t i) h = refl
 nothing (calls.write t k v i wanted now who) h =
     let p = (decode_whole t).kind.profile in
     let rule = write_as p who wanted.value v now.value i.value k in
     ap (λ (u : Bytes). u ∷ k ∷ v ∷ [])
-    (on-table answer_told (plain.Refused BadTable) rule (λ t g. let x = by_answer _ g in write-as-refused p who wanted.value v now.value i.value k t x.0 x.1) t h)
+    (on-table answer_told (Err BadTable) rule (λ t g. let x = by_answer _ g in write-as-refused p who wanted.value v now.value i.value k t x.0 x.1) t h)
 nothing (calls.delete t k i now who) h =
     let p = (decode_whole t).kind.profile in
     let c = Deleting now.value in
     ap (λ (u : Bytes). u ∷ k ∷ [])
-    (on-table answer_told (plain.Refused BadTable) (call_as p who c i.value k) (λ t g. let x = by_answer _ g in call-as-refused p who c i.value k t x.0 x.1) t h)
+    (on-table answer_told (Err BadTable) (call_as p who c i.value k) (λ t g. let x = by_answer _ g in call-as-refused p who c i.value k t x.0 x.1) t h)
 nothing (calls.delete-after-ttl t k i now who) h =
     let p = (decode_whole t).kind.profile in
     let c = DeletingAfterTtl now.value in
     ap (λ (u : Bytes). u ∷ k ∷ [])
-    (on-table answer_told (plain.Refused BadTable) (call_as p who c i.value k) (λ t g. let x = by_answer _ g in call-as-refused p who c i.value k t x.0 x.1) t h)
+    (on-table answer_told (Err BadTable) (call_as p who c i.value k) (λ t g. let x = by_answer _ g in call-as-refused p who c i.value k t x.0 x.1) t h)
 nothing (calls.remove-scheduled t now grace) h =
-    ap (λ (u : Bytes). u ∷ []) (on-table answer_told (plain.Refused BadTable) (gc now.value grace.value) (scheduled now.value grace.value) t h)
+    ap (λ (u : Bytes). u ∷ []) (on-table answer_told (Err BadTable) (gc now.value grace.value) (scheduled now.value grace.value) t h)
 nothing (calls.offer-heartbeat t i b) h =
     let o = beats b.value in
     ap (λ (u : Bytes). u ∷ [])
-    (on-table offered_told (offered.Refused BadTable) (offer i.value o) (λ t g. let x = by-offered _ g in offer-refused i.value o t x.0 x.1) t h)
+    (on-table offered_told (Err BadTable) (offer i.value o) (λ t g. let x = by-offered _ g in offer-refused i.value o t x.0 x.1) t h)
 nothing (calls.local-beat t i) h =
     ap (λ (u : Bytes). u ∷ [])
-    (on-table answer_told (plain.Refused BadTable) (local_beat i.value) (λ t g. let x = by_answer _ g in beat-refused i.value t x.0 x.1) t h)
+    (on-table answer_told (Err BadTable) (local_beat i.value) (λ t g. let x = by_answer _ g in beat-refused i.value t x.0 x.1) t h)
 nothing (calls.find t k i who) h = refl
 nothing (calls.list-prefix t k out i who) h =
     let p = (decode_whole t).kind.profile in
     ap (λ (u : Bytes). t ∷ k ∷ u ∷ [])
-    (into-list listed_told (listed.Refused BadTable) (λ t. prefixed_as p who i.value k t out) out
+    (into-list listed_told (Err BadTable) (λ t. prefixed_as p who i.value k t out) out
     (λ t g. let x = by-listed _ g in listed-refused p who i.value k t out x.0 x.1) t h)
 nothing (calls.new-overrides o i) h = ap (λ (u : Bytes). u ∷ []) (over-made i.value o h)
 nothing (calls.write-override o k v wanted now) h =
@@ -435,17 +425,17 @@ nothing (calls.prefix-rows t k i who) h = refl
 nothing (calls.find-text t i j x who) h = refl
 nothing (calls.write-digest t edition excluded datagram place) h =
     ap (λ (u : Bytes). t ∷ excluded ∷ u ∷ [])
-    (into-list written_told (written.Refused BadTable) (λ t. write_digest edition excluded place t datagram) datagram
+    (into-list written_told (Err BadTable) (λ t. write_digest edition excluded place t datagram) datagram
     (λ t g. let x = by_written _ g in digest-refused edition excluded place t datagram x.0 x.1) t h)
 nothing (calls.read-digest edition digest) h = refl
 nothing (calls.digest_entry digest edition i) h = refl
 nothing (calls.compute t edition digest excluded ties datagram mtu place) h =
     ap (λ (u : Bytes). t ∷ digest ∷ excluded ∷ ties ∷ u ∷ [])
-    (into-list computed_told (computed.Refused BadTable) (λ t. computing.compute edition excluded ties mtu place digest t datagram) datagram
+    (into-list computed_told (Err BadTable) (λ t. computing.compute edition excluded ties mtu place digest t datagram) datagram
     (λ t g. let x = by-computed _ g in compute-refused edition excluded ties mtu place digest t datagram x.0 x.1) t h)
 nothing (calls.compute-plan t edition digest excluded nodes counts datagram mtu place) h =
     ap (λ (u : Bytes). t ∷ digest ∷ excluded ∷ nodes ∷ counts ∷ u ∷ [])
-    (into-list computed_told (computed.Refused BadTable) (λ t. compute_plan edition excluded nodes counts mtu place digest t datagram) datagram
+    (into-list computed_told (Err BadTable) (λ t. compute_plan edition excluded nodes counts mtu place digest t datagram) datagram
     (λ t g. let x = by-computed _ g in plan-refused edition excluded nodes counts mtu place digest t datagram x.0 x.1) t h)
 nothing (calls.plan-fault t edition digest excluded nodes counts mtu) h = refl
 nothing (calls.read-delta delta) h = refl

@@ -29,31 +29,31 @@ use Rattle.rules.specs.Profile.{Kind, brings, guard_in, kind, meter_guard, odd_n
 use Rattle.rules.specs.Table.{Entry, Table, add_node, among, drop_node, node_of, numbers_of}
 use Rattle.rules.specs.Layout.{node_place, node_width, encode_node, decode_node}
 use Rattle.rules.specs.Delta.{status_byte}
-use Rattle.rules.specs.declared.Answer.{Answer}
-use Rattle.rules.specs.declared.Answer.TheVariants as plain
+use Rattle.std.specs.Prelude.{Option as Optional}
+use Rattle.std.specs.Prelude.{Err, None, Ok, Result, Some}
+use Rattle.exchange.specs.declared.Exchanged.{Exchanged}
+use Rattle.exchange_ask.specs.declared.Stopped.{Stopped}
+use Rattle.inspect.specs.declared.RecordRead.{RecordRead}
+use Rattle.lookup.specs.declared.Found.{Found}
+use Rattle.over_find.specs.declared.FoundOver.{FoundOver}
+use Rattle.overrides.specs.declared.RefusedOver.{RefusedOver}
+use Rattle.plan.specs.declared.NotSent.{NotSent}
+use Rattle.rules.specs.declared.Sent.{Sent}
+use Rattle.rules.specs.Results.{done}
+use Rattle.plan.specs.declared.NotSent.TheVariants as not_sent
+use Rattle.over_find.specs.declared.FoundOver.TheVariants as place
 use Rattle.rules.specs.declared.Heartbeat.{Heartbeat}
-use Rattle.rules.specs.declared.Remembered.TheVariants as remembered
-use Rattle.rules.specs.declared.Applied.TheVariants as applied
-use Rattle.rules.specs.declared.Computed.{Computed}
-use Rattle.rules.specs.declared.Computed.TheVariants as computed
-use Rattle.rules.specs.declared.Listed.{Listed}
-use Rattle.rules.specs.declared.Listed.TheVariants as listed
-use Rattle.rules.specs.declared.Offered.TheVariants as offered
 use Rattle.rules.specs.declared.Party.{Party}
 use Rattle.rules.specs.declared.Profile.{Profile}
 use Rattle.rules.specs.declared.Profile.TheVariants.{Free, Meter, Shared}
 use Rattle.rules.specs.declared.Refusal.{Refusal}
 use Rattle.rules.specs.declared.Refusal.TheVariants.{BadMtu, BadPeer, BadPlan, BadTable, BadTag, BadTies, Exhausted, NinthNode, NoNode, NobodyPresent, NodeFull, NoPlace, OtherParty, TooLong, BadEdition}
 use Rattle.rules.specs.declared.Status.TheVariants.{Set, Ttl}
-use Rattle.rules.specs.declared.Written.{Written}
-use Rattle.rules.specs.declared.Written.TheVariants as written
 use Rattle.table_read.specs.Find.{node_start}
 use Rattle.nodes.specs.New.{lent_made}
 use Rattle.lookup.specs.Lookup as placed
 use Rattle.lookup.specs.Lookup.{find_as, find_on, find_rec, found_in, value_place}
 use Rattle.lookup.specs.Told.{found_told}
-use Rattle.lookup.specs.declared.Found.{Found}
-use Rattle.lookup.specs.declared.Found.TheVariants as found
 use Rattle.table.specs.Changes.{fresh_entry}
 use Rattle.overrides.specs.Overrides as overrides
 use Rattle.overrides.specs.Overrides.{valid_node, stored_node, on_overrides, lent_new_overrides, lent_write_override, lent_call_override, lent_remove_overrides}
@@ -62,28 +62,16 @@ use Rattle.overrides.specs.declared.Which.{Which}
 use Rattle.overrides.specs.declared.Which.TheVariants as which
 use Rattle.over_find.specs.Over.{first_of, over_of, found_over, lent_find_over}
 use Rattle.over_find.specs.Told.{found_over_told}
-use Rattle.over_find.specs.declared.FoundOver.{FoundOver}
-use Rattle.over_find.specs.declared.FoundOver.TheVariants as over
 use Rattle.over_list.specs.Merged as merging
 use Rattle.over_list.specs.Merged.{list_on, list_over, lent_list_over}
 use Rattle.over_list.specs.Told.{listed_over_told}
-use Rattle.over_list.specs.declared.ListedOver.{ListedOver}
-use Rattle.over_list.specs.declared.ListedOver.TheVariants as merged
 use Rattle.over_list.proofs.Listed.{searched}
 use Rattle.grid.specs.Grid.{Grid, add_column, columns, drop_column, least_of, max_peers, maxes_told, new_grid, place_of, somebody, take_out}
 use Rattle.grid.specs.GridLayout.{decode_grid, encode_grid, grid_width, valid_grid}
 use Rattle.grid.specs.LentGrid.{both as beside, carefully_removed, grid_on, least_told, lent_careful, lent_column_in, lent_column_out, lent_least, lent_new_grid, lent_seen, lent_take_out, lent_tell, seen_told, tell_on, valid_both}
-use Rattle.grid.specs.declared.Least.TheVariants as least
-use Rattle.grid.specs.declared.Seen.TheVariants as told
 use Rattle.inspect.specs.Look as looking
 use Rattle.inspect.specs.Look.{element_at, front_as, front_told, header_on, node_count, node_header, node_number, node_rows_as, number_on, read_at, read_key, read_rec, read_record_as, record_by_key, record_by_key_as, record_by_key_on, record_count_as, record_in, record_of_as, record_on, records_on, rows_on}
 use Rattle.inspect.specs.Told.{count_told, node_header_told, node_number_told, record_read_told, rows_told}
-use Rattle.inspect.specs.declared.Count.TheVariants as count
-use Rattle.inspect.specs.declared.NodeHeader.TheVariants as header
-use Rattle.inspect.specs.declared.NodeNumber.TheVariants as number
-use Rattle.inspect.specs.declared.RecordRead.{RecordRead}
-use Rattle.inspect.specs.declared.RecordRead.TheVariants as rec
-use Rattle.inspect.specs.declared.Rows.TheVariants as rows
 use Rattle.prefix.specs.Rows.{run_rows, prefix_rows_as, prefix_rows_on}
 use Rattle.inspect_text.specs.Texts.{place_on, text_found_as, text_on}
 use Rattle.inspect_text.specs.declared.Text.{Text}
@@ -91,12 +79,8 @@ use Rattle.digest_read.specs.Held.{digest_in, held_of, in_places, unused}
 use Rattle.digest_read.specs.declared.NodeDigest.{NodeDigest as Place}
 use Rattle.digest_read.specs.Told.{digest_told}
 use Rattle.compute.specs.Asking.{asked_of, is_free, mtu_fits}
-use Rattle.compute.specs.declared.Asked.TheVariants as asked
 use Rattle.exchange.specs.Exchanging.{Lending, after_asking, exchanged_told, lending, lent_exchange, rooms_of}
 use Rattle.exchange_ask.specs.Asking.{Rooms, forms_fit, ready_for, ready_on, rooms_for, taking_for, unless_refused}
-use Rattle.exchange.specs.declared.Exchanged.{Exchanged}
-use Rattle.exchange_ask.specs.declared.Ready.{Ready}
-use Rattle.exchange_ask.specs.declared.Ready.TheVariants as ready
 use Rattle.exchange_ask.specs.declared.Step.TheVariants.{Applying, Delta, Digest}
 use Rattle.rules.proofs.Obeys.{in-among}
 use Rattle.rules.proofs.Writing.{ByProfile, call-as, form, full, party, total, write_as_lem}
@@ -108,8 +92,6 @@ use Rattle.demand1.specs.Calls as calls
 use Rattle.plan.proofs.Judging.{is_accepted, said-number}
 use Rattle.plan.specs.Faults.{judge, judge_on, judge_plan, judged_told}
 use Rattle.plan.specs.Plan.{accepts, compute_plan, delta_by, plan_on}
-use Rattle.plan.specs.declared.Judged.{Judged}
-use Rattle.plan.specs.declared.Judged.TheVariants as judged
 use Rattle.demand1.proofs.Deltas.{OpsSo, delta-as, delta-comes, digest-comes}
 
 -- the number is one that the kind of call can give
@@ -154,27 +136,27 @@ made : (m : Kind) (l : Bytes) → Of calls.NewTable (answer_told (lent_made m l)
 unfolding lent_made answer_told among calls.refusals
 made m l = go (eqb (length l) whole_width)
   where
-    go : (b : Bool) → Of calls.NewTable (answer_told (pick b (given plain.Done (lent_new m)) (given (plain.Refused BadTable) l)).answer)
+    go : (b : Bool) → Of calls.NewTable (answer_told (pick b (given done (lent_new m)) (given (Err BadTable) l)).answer)
     go true = refl
     go false = refl
 
-added : (i : ℕ) (l : Bytes) → Of calls.AddNode (answer_told (on_whole (plain.Refused BadTable) (add_whole i) l).answer)
+added : (i : ℕ) (l : Bytes) → Of calls.AddNode (answer_told (on_whole (Err BadTable) (add_whole i) l).answer)
 unfolding add_whole add answer_told among calls.refusals
 added i l =
-    on-whole (λ a. Of calls.AddNode (answer_told a)) (plain.Refused BadTable) (add_whole i) refl
+    on-whole (λ a. Of calls.AddNode (answer_told a)) (Err BadTable) (add_whole i) refl
     (λ w. go w.table (among i (numbers_of w.table)) (ltb (length w.table) max_nodes)) l
   where
-    go : (t : Table) (a b : Bool) → Of calls.AddNode (answer_told (pick a (gives plain.Done t) (pick b (gives plain.Done (add_node i t)) (gives (plain.Refused NinthNode) t))).answer)
+    go : (t : Table) (a b : Bool) → Of calls.AddNode (answer_told (pick a (gives done t) (pick b (gives done (add_node i t)) (gives (Err NinthNode) t))).answer)
     go t true b = refl
     go t false true = refl
     go t false false = refl
 
-removed : (i : ℕ) (l : Bytes) → Of calls.RemoveNode (answer_told (on_whole (plain.Refused BadTable) (remove_whole i) l).answer)
+removed : (i : ℕ) (l : Bytes) → Of calls.RemoveNode (answer_told (on_whole (Err BadTable) (remove_whole i) l).answer)
 unfolding remove_whole remove_node answer_told among calls.refusals
 removed i l =
-    on-whole (λ a. Of calls.RemoveNode (answer_told a)) (plain.Refused BadTable) (remove_whole i) refl (λ w. go w.table (among i (numbers_of w.table))) l
+    on-whole (λ a. Of calls.RemoveNode (answer_told a)) (Err BadTable) (remove_whole i) refl (λ w. go w.table (among i (numbers_of w.table))) l
   where
-    go : (t : Table) (a : Bool) → Of calls.RemoveNode (answer_told (pick a (gives plain.Done (drop_node i t)) (gives (plain.Refused NoNode) t)).answer)
+    go : (t : Table) (a : Bool) → Of calls.RemoveNode (answer_told (pick a (gives done (drop_node i t)) (gives (Err NoNode) t)).answer)
     go t true = refl
     go t false = refl
 
@@ -182,19 +164,19 @@ asked-for : (i : ℕ) (l : Bytes) → Of calls.LastHeartbeat (remembered_told (l
 unfolding lent_removed remembered_told among calls.refusals
 asked-for i l = go (valid_whole l) (heartbeat_of i (decode_whole l).memory)
   where
-    go : (b : Bool) (h : Option Heartbeat) → Of calls.LastHeartbeat (remembered_told (pick b (remembered_as h) (remembered.Refused BadTable)))
+    go : (b : Bool) (h : Option Heartbeat) → Of calls.LastHeartbeat (remembered_told (pick b (remembered_as h) (Err BadTable)))
     go true none = refl
     go true (some h) = refl
     go false h = refl
 
-collected : (now grace : ℕ) (l : Bytes) → Of calls.RemoveScheduled (answer_told (on_table (plain.Refused BadTable) (gc now grace) l).answer)
+collected : (now grace : ℕ) (l : Bytes) → Of calls.RemoveScheduled (answer_told (on_table (Err BadTable) (gc now grace) l).answer)
 unfolding gc answer_told among calls.refusals
-collected now grace l = on-table (λ a. Of calls.RemoveScheduled (answer_told a)) (plain.Refused BadTable) (gc now grace) refl (λ t. refl) l
+collected now grace l = on-table (λ a. Of calls.RemoveScheduled (answer_told a)) (Err BadTable) (gc now grace) refl (λ t. refl) l
 
-offers : (i h : ℕ) (l : Bytes) → Of calls.OfferHeartbeat (offered_told (on_table (offered.Refused BadTable) (offer i (beats h)) l).answer)
+offers : (i h : ℕ) (l : Bytes) → Of calls.OfferHeartbeat (offered_told (on_table (Err BadTable) (offer i (beats h)) l).answer)
 unfolding offer offered_told among calls.refusals
 offers i h l =
-    on-table (λ a. Of calls.OfferHeartbeat (offered_told a)) (offered.Refused BadTable) (offer i (beats h)) refl (λ t. go t (node_of i t)) l
+    on-table (λ a. Of calls.OfferHeartbeat (offered_told a)) (Err BadTable) (offer i (beats h)) refl (λ t. go t (node_of i t)) l
   where
     say : (b : Bool) → Of calls.OfferHeartbeat (offered_told (yes_no b))
     say true = refl
@@ -204,11 +186,11 @@ offers i h l =
     go t none = refl
     go t (some n) = say (offer_of n.heartbeat (beats h)).news
 
-beaten : (i : ℕ) (l : Bytes) → Of calls.LocalBeat (answer_told (on_table (plain.Refused BadTable) (local_beat i) l).answer)
+beaten : (i : ℕ) (l : Bytes) → Of calls.LocalBeat (answer_told (on_table (Err BadTable) (local_beat i) l).answer)
 unfolding local_beat answer_told among calls.refusals
-beaten i l = on-table (λ a. Of calls.LocalBeat (answer_told a)) (plain.Refused BadTable) (local_beat i) refl (λ t. go t (node_of i t)) l
+beaten i l = on-table (λ a. Of calls.LocalBeat (answer_told a)) (Err BadTable) (local_beat i) refl (λ t. go t (node_of i t)) l
   where
-    rise : (t u : Table) (b : Bool) → Of calls.LocalBeat (answer_told (pick b (gives plain.Done u) (gives (plain.Refused Exhausted) t)).answer)
+    rise : (t u : Table) (b : Bool) → Of calls.LocalBeat (answer_told (pick b (gives done u) (gives (Err Exhausted) t)).answer)
     rise t u true = refl
     rise t u false = refl
 
@@ -219,8 +201,8 @@ beaten i l = on-table (λ a. Of calls.LocalBeat (answer_told a)) (plain.Refused 
 -- ---- records
 
 -- 2, 1, then what the call wants of the node
-called_on : (kind : calls.Kind) (c : Call) → Of kind (answer_told (plain.Refused NoNode))
-    → Of kind (answer_told (plain.Refused TooLong))
+called_on : (kind : calls.Kind) (c : Call) → Of kind (answer_told (Err NoNode))
+    → Of kind (answer_told (Err TooLong))
     → ((k : Bytes) (n : Node) (o : Option Rec) → find k n.recs ≡ o → Of kind (answer_told (answer_of (allowed k n (wish c o)))))
     → (i : ℕ) (k : Bytes) (t : Table)
     → Of kind (answer_told (call c i k t).answer)
@@ -253,19 +235,19 @@ unguarded Shared q c k e (some n) P a b = subst (λ (g : Option KeyValue). P (pi
     go false y = a
 
 -- 14 first
-called : (kind : calls.Kind) (p : Profile) (q : Party) (c : Call) → ((k : Bytes) → brings c k ≡ none) → Of kind (answer_told (plain.Refused BadTable)) → Of kind (answer_told (plain.Refused OtherParty))
-    → Of kind (answer_told (plain.Refused NoNode))
-    → Of kind (answer_told (plain.Refused TooLong))
+called : (kind : calls.Kind) (p : Profile) (q : Party) (c : Call) → ((k : Bytes) → brings c k ≡ none) → Of kind (answer_told (Err BadTable)) → Of kind (answer_told (Err OtherParty))
+    → Of kind (answer_told (Err NoNode))
+    → Of kind (answer_told (Err TooLong))
     → ((k : Bytes) (n : Node) (o : Option Rec) → find k n.recs ≡ o → Of kind (answer_told (answer_of (allowed k n (wish c o)))))
     → (i : ℕ) (k l : Bytes)
-    → Of kind (answer_told (on_table (plain.Refused BadTable) (call_as p q c i k) l).answer)
+    → Of kind (answer_told (on_table (Err BadTable) (call_as p q c i k) l).answer)
 unfolding call_as
 called kind p q c none-brought bad other missing long f i k =
-    on-table (λ a. Of kind (answer_told a)) (plain.Refused BadTable) (call_as p q c i k) bad
+    on-table (λ a. Of kind (answer_told a)) (Err BadTable) (call_as p q c i k) bad
     (λ t. unguarded p q c k (none-brought k) (node_of i t) (λ g. Of kind (answer_told (unless_guarded g (call c i k t) t).answer)) (called_on kind c missing long f i k t) other)
 
 -- a set: nothing to change, 5, 6
-sets : (kind : calls.Kind) → Of kind (answer_told plain.Done) → Of kind (answer_told (plain.Refused NodeFull)) → Of kind (answer_told (plain.Refused Exhausted)) → (c : Change) (k : Bytes) (n : Node) (o : Option Rec) → Of kind (answer_told (answer_of (allowed k n (unless_same o c))))
+sets : (kind : calls.Kind) → Of kind (answer_told done) → Of kind (answer_told (Err NodeFull)) → Of kind (answer_told (Err Exhausted)) → (c : Change) (k : Bytes) (n : Node) (o : Option Rec) → Of kind (answer_told (answer_of (allowed k n (unless_same o c))))
 sets kind done no_room over c k n o = go o
   where
     grant : (f b : Bool) → Of kind (answer_told (answer_of (pick f (Refuse NodeFull) (pick b (Give c) (Refuse Exhausted)))))
@@ -282,7 +264,7 @@ sets kind done no_room over c k n o = go o
     go (some r) = same (same_status r.kv.status c.status && same_bytes r.kv.value c.value)
 
 -- a delete of a key that is there: 6 alone
-drops : (kind : calls.Kind) → Of kind (answer_told plain.Done) → Of kind (answer_told (plain.Refused Exhausted)) → (c : Change) (k : Bytes) (n : Node) (r : Rec) → find k n.recs ≡ some r → Of kind (answer_told (answer_of (allowed k n (Give c))))
+drops : (kind : calls.Kind) → Of kind (answer_told done) → Of kind (answer_told (Err Exhausted)) → (c : Change) (k : Bytes) (n : Node) (r : Rec) → find k n.recs ≡ some r → Of kind (answer_told (answer_of (allowed k n (Give c))))
 drops kind done over c k n r e =
     subst (λ (x : Option Rec). Of kind (answer_told (answer_of (pick (full_for x n) (Refuse NodeFull) (pick (ltb n.max top) (Give c) (Refuse Exhausted))))))
     (sym e) (rise (ltb n.max top))
@@ -292,23 +274,23 @@ drops kind done over c k n r e =
     rise false = over
 
 -- 17, 18 and 19 of the profile
-wrote : (p : Profile) (q : Party) (wanted : ℕ) (v : Bytes) (now i : ℕ) (k l : Bytes) → Of calls.Write (answer_told (on_table (plain.Refused BadTable) (write_as p q wanted v now i k) l).answer)
+wrote : (p : Profile) (q : Party) (wanted : ℕ) (v : Bytes) (now i : ℕ) (k l : Bytes) → Of calls.Write (answer_told (on_table (Err BadTable) (write_as p q wanted v now i k) l).answer)
 unfolding wish answer_told among calls.refusals
 wrote p q wanted v now i k =
-    on-table (λ a. Of calls.Write (answer_told a)) (plain.Refused BadTable) (write_as p q wanted v now i k) refl
+    on-table (λ a. Of calls.Write (answer_told a)) (Err BadTable) (write_as p q wanted v now i k) refl
     (λ t. write_as_lem p q wanted v now i k t (λ o. Of calls.Write (answer_told o.answer)) (in-profile t (Setting v) (called_on calls.Write (Setting v) refl refl (λ k n o e. sets calls.Write refl refl refl _ k n o) i k t))
     (in-profile t (SettingTtl v now) (called_on calls.Write (SettingTtl v now) refl refl (λ k n o e. sets calls.Write refl refl refl _ k n o) i k t)) refl)
   where
     in-profile : (t : Table) (c : Call) → Of calls.Write (answer_told (call c i k t).answer) → Of calls.Write (answer_told (call_as p q c i k t).answer)
     in-profile t c h = call-as p q c i k t (λ o. Of calls.Write (answer_told o.answer)) h by
       where
-        by : (r : Refusal) → ByProfile r → Of calls.Write (answer_told (plain.Refused r))
+        by : (r : Refusal) → ByProfile r → Of calls.Write (answer_told (Err r))
         by r form = refl
         by r total = refl
         by r party = refl
         by r full = refl
 
-deleted : (p : Profile) (q : Party) (now i : ℕ) (k l : Bytes) → Of calls.Delete (answer_told (on_table (plain.Refused BadTable) (call_as p q (Deleting now) i k) l).answer)
+deleted : (p : Profile) (q : Party) (now i : ℕ) (k l : Bytes) → Of calls.Delete (answer_told (on_table (Err BadTable) (call_as p q (Deleting now) i k) l).answer)
 unfolding wish answer_told among calls.refusals
 deleted p q now = called calls.Delete p q (Deleting now) (λ k. refl) refl refl refl refl go
   where
@@ -316,7 +298,7 @@ deleted p q now = called calls.Delete p q (Deleting now) (λ k. refl) refl refl 
     go k n none e = refl
     go k n (some r) e = drops calls.Delete refl refl _ k n r e
 
-deleted-ttl : (p : Profile) (q : Party) (now i : ℕ) (k l : Bytes) → Of calls.DeleteAfterTtl (answer_told (on_table (plain.Refused BadTable) (call_as p q (DeletingAfterTtl now) i k) l).answer)
+deleted-ttl : (p : Profile) (q : Party) (now i : ℕ) (k l : Bytes) → Of calls.DeleteAfterTtl (answer_told (on_table (Err BadTable) (call_as p q (DeletingAfterTtl now) i k) l).answer)
 unfolding wish answer_told among calls.refusals
 deleted-ttl p q now = called calls.DeleteAfterTtl p q (DeletingAfterTtl now) (λ k. refl) refl refl refl refl go
   where
@@ -334,23 +316,23 @@ looked k start j [] = refl
 looked k start j (r ∷ l) = go (same_bytes k r.kv.key) (hidden r.kv.status) (looked k start (suc j) l)
   where
     go : (b h : Bool) → Of calls.Find (found_told (find_rec k start (suc j) l))
-        → Of calls.Find (found_told (pick b (pick h found.Nothing (found.At (value_place start j) (length r.kv.value))) (find_rec k start (suc j) l)))
+        → Of calls.Find (found_told (pick b (pick h (Ok None) (Ok (Some (record { start = (value_place start j); len = (length r.kv.value) })))) (find_rec k start (suc j) l)))
     go true true e = refl
     go true false e = refl
     go false h e = e
 
-finds : (p : Profile) (q : Party) (i : ℕ) (k l : Bytes) → Of calls.Find (found_told (from_table (found.Refused BadTable) (find_as p q i k) l))
+finds : (p : Profile) (q : Party) (i : ℕ) (k l : Bytes) → Of calls.Find (found_told (from_table (Err BadTable) (find_as p q i k) l))
 unfolding found_told among calls.refusals
 finds p q i k l =
-    from-table (λ a. Of calls.Find (found_told a)) (found.Refused BadTable) (find_as p q i k) refl (λ t. named (sees p q k) (found_in i k (seen p q t)) (go (node_start i (seen p q t)) (node_of i (seen p q t)))) l
+    from-table (λ a. Of calls.Find (found_told a)) (Err BadTable) (find_as p q i k) refl (λ t. named (sees p q k) (found_in i k (seen p q t)) (go (node_start i (seen p q t)) (node_of i (seen p q t)))) l
   where
-    named : (b : Bool) (f : Found) → Of calls.Find (found_told f) → Of calls.Find (found_told (placed.unless_other b f))
+    named : (b : Bool) (f : (Result (Optional Found) Refusal)) → Of calls.Find (found_told f) → Of calls.Find (found_told (placed.unless_other b f))
     named true f h = h
-    named false (found.At start len) h = refl
-    named false found.Nothing h = refl
-    named false (found.Refused r) h = h
+    named false (Ok (Some f)) h = refl
+    named false (Ok None) h = refl
+    named false (Err r) h = h
 
-    limit : (start : ℕ) (n : Node) (b : Bool) → Of calls.Find (found_told (pick b (find_rec k start 0 n.recs) (found.Refused TooLong)))
+    limit : (start : ℕ) (n : Node) (b : Bool) → Of calls.Find (found_told (pick b (find_rec k start 0 n.recs) (Err TooLong)))
     limit start n true = looked k start 0 n.recs
     limit start n false = refl
 
@@ -358,17 +340,17 @@ finds p q i k l =
     go start none = refl
     go start (some n) = limit start n (leb (length k) max_key)
 
-lists : (p : Profile) (q : Party) (i : ℕ) (k out l : Bytes) → Of calls.ListPrefix (listed_told (from_table (given (listed.Refused BadTable) out) (λ t. prefixed_as p q i k t out) l).answer)
+lists : (p : Profile) (q : Party) (i : ℕ) (k out l : Bytes) → Of calls.ListPrefix (listed_told (from_table (given (Err BadTable) out) (λ t. prefixed_as p q i k t out) l).answer)
 unfolding prefixed prefixed_as listed_told among calls.refusals
 lists p q i k out l =
-    from-table (λ (a : Given Listed Bytes). Of calls.ListPrefix (listed_told a.answer)) (given (listed.Refused BadTable) out) (λ t. prefixed_as p q i k t out) refl
+    from-table (λ (a : Given (Result ℕ Refusal) Bytes). Of calls.ListPrefix (listed_told a.answer)) (given (Err BadTable) out) (λ t. prefixed_as p q i k t out) refl
     (λ t. go (node_of i (seen p q t))) l
   where
-    into : (hits : Bytes) (b : Bool) → Of calls.ListPrefix (listed_told (pick b (given (listed.Hits (length hits)) (put 0 hits out)) (given (listed.Refused NoPlace) out)).answer)
+    into : (hits : Bytes) (b : Bool) → Of calls.ListPrefix (listed_told (pick b (given (Ok (length hits)) (put 0 hits out)) (given (Err NoPlace) out)).answer)
     into hits true = refl
     into hits false = refl
 
-    limit : (n : Node) (b : Bool) → Of calls.ListPrefix (listed_told (pick b (list_into (hits_from k 0 n.recs) out) (given (listed.Refused TooLong) out)).answer)
+    limit : (n : Node) (b : Bool) → Of calls.ListPrefix (listed_told (pick b (list_into (hits_from k 0 n.recs) out) (given (Err TooLong) out)).answer)
     limit n true = into (hits_from k 0 n.recs) (leb (length (hits_from k 0 n.recs)) (length out))
     limit n false = refl
 
@@ -382,21 +364,21 @@ over-made : (i : ℕ) (o : Bytes) → Of calls.NewOverrides (answer_told (lent_n
 unfolding lent_new_overrides answer_told among calls.refusals
 over-made i o = go (eqb (length o) node_width)
   where
-    go : (b : Bool) → Of calls.NewOverrides (answer_told (pick b (given plain.Done (encode_node (fresh_entry i))) (given (plain.Refused BadTable) o)).answer)
+    go : (b : Bool) → Of calls.NewOverrides (answer_told (pick b (given done (encode_node (fresh_entry i))) (given (Err BadTable) o)).answer)
     go true = refl
     go false = refl
 
-on-over : (kind : calls.Kind) (rule : Entry → Given Answer Entry) → Of kind (answer_told (plain.Refused BadTable)) → ((e : Entry) → Of kind (answer_told (rule e).answer)) → (o : Bytes)
-    → Of kind (answer_told (on_overrides (plain.Refused BadTable) rule o).answer)
+on-over : (kind : calls.Kind) (rule : Entry → Given (Result (Unit {0}) Refusal) Entry) → Of kind (answer_told (Err BadTable)) → ((e : Entry) → Of kind (answer_told (rule e).answer)) → (o : Bytes)
+    → Of kind (answer_told (on_overrides (Err BadTable) rule o).answer)
 unfolding on_overrides
 on-over kind rule bad f o = go (valid_node o)
   where
-    go : (b : Bool) → Of kind (answer_told (pick b (stored_node (rule (decode_node o))) (given (plain.Refused BadTable) o)).answer)
+    go : (b : Bool) → Of kind (answer_told (pick b (stored_node (rule (decode_node o))) (given (Err BadTable) o)).answer)
     go true = f (decode_node o)
     go false = bad
 
 -- 1, then what the call wants of the node
-over-called : (kind : calls.Kind) (c : Call) → Of kind (answer_told (plain.Refused TooLong))
+over-called : (kind : calls.Kind) (c : Call) → Of kind (answer_told (Err TooLong))
     → ((k : Bytes) (n : Node) (o : Option Rec) → find k n.recs ≡ o → Of kind (answer_told (answer_of (allowed k n (wish c o)))))
     → (k : Bytes) (e : Entry) → Of kind (answer_told (overrides.called c k e).answer)
 unfolding decide
@@ -411,7 +393,7 @@ unfolding overrides.written wish answer_told among calls.refusals
 over-wrote wanted v now k o = on-over calls.WriteOverride (overrides.written wanted v now k) refl (λ e. go e (eqb wanted (status_byte Set)) (eqb wanted (status_byte Ttl))) o
   where
     go : (e : Entry) (s t : Bool)
-        → Of calls.WriteOverride (answer_told (pick s (overrides.called (Setting v) k e) (pick t (overrides.called (SettingTtl v now) k e) (given (plain.Refused BadTag) e))).answer)
+        → Of calls.WriteOverride (answer_told (pick s (overrides.called (Setting v) k e) (pick t (overrides.called (SettingTtl v now) k e) (given (Err BadTag) e))).answer)
     go e true t = over-called calls.WriteOverride (Setting v) refl (λ k n o q. sets calls.WriteOverride refl refl refl _ k n o) k e
     go e false true = over-called calls.WriteOverride (SettingTtl v now) refl (λ k n o q. sets calls.WriteOverride refl refl refl _ k n o) k e
     go e false false = refl
@@ -451,50 +433,50 @@ from-both P bad rule b f o t = go (valid_node o)
 found-over : (q : Party) (i : ℕ) (k o t : Bytes) → Of calls.FindOver (found_over_told (lent_find_over q i k o t))
 unfolding found_over_told among calls.refusals
 found-over q i k o t =
-    from-both (λ a. Of calls.FindOver (found_over_told a)) (λ w. over.Refused w BadTable) (found_over (p t) q i k) (λ w. refl)
+    from-both (λ a. Of calls.FindOver (found_over_told a)) (λ w. (Err (record { which = w; why = BadTable }))) (found_over (p t) q i k) (λ w. refl)
     (λ n u. named (sees (p t) q k) (find_on k 0 (some n)) (found_in i k (seen (p t) q u)) (go (find_on k 0 (some n)) (node_start i (seen (p t) q u)) (node_of i (seen (p t) q u)))) o t
   where
     p : Bytes → Profile
     p t = (decode_whole t).kind.profile
 
-    named : (b : Bool) (own f : Found) → Of calls.FindOver (found_over_told (over_of own f)) → Of calls.FindOver (found_over_told (over_of own (placed.unless_other b f)))
+    named : (b : Bool) (own f : (Result (Optional Found) Refusal)) → Of calls.FindOver (found_over_told (over_of own f)) → Of calls.FindOver (found_over_told (over_of own (placed.unless_other b f)))
     named true own f h = h
-    named false own (found.At start len) h = refl
-    named false own found.Nothing h = refl
-    named false own (found.Refused r) h = h
+    named false own (Ok (Some f)) h = refl
+    named false own (Ok None) h = refl
+    named false own (Err r) h = h
 
-    first : (own : Found) (x : FoundOver) → Of calls.FindOver (found_over_told x) → Of calls.FindOver (found_over_told (first_of own x))
-    first (found.At s n) x h = refl
-    first found.Nothing x h = h
-    first (found.Refused r) x h = h
+    first : (own : (Result (Optional Found) Refusal)) (x : (Result (Optional FoundOver) RefusedOver)) → Of calls.FindOver (found_over_told x) → Of calls.FindOver (found_over_told (first_of own x))
+    first (Ok (Some f)) x h = refl
+    first (Ok None) x h = h
+    first (Err r) x h = h
 
-    shows : (own : Found) (start j : ℕ) (l : List Rec) → Of calls.FindOver (found_over_told (over_of own (find_rec k start j l)))
+    shows : (own : (Result (Optional Found) Refusal)) (start j : ℕ) (l : List Rec) → Of calls.FindOver (found_over_told (over_of own (find_rec k start j l)))
     shows own start j l =
-        searched (λ f. Of calls.FindOver (found_over_told (over_of own f))) k start (first own over.Nothing refl) (λ s n. first own (over.InTable s n) refl) j l
+        searched (λ f. Of calls.FindOver (found_over_told (over_of own f))) k start (first own (Ok None) refl) (λ s n. first own (Ok (Some (place.InTable s n))) refl) j l
 
-    limit : (own : Found) (start : ℕ) (n : Node) (b : Bool) → Of calls.FindOver (found_over_told (over_of own (pick b (find_rec k start 0 n.recs) (found.Refused TooLong))))
+    limit : (own : (Result (Optional Found) Refusal)) (start : ℕ) (n : Node) (b : Bool) → Of calls.FindOver (found_over_told (over_of own (pick b (find_rec k start 0 n.recs) (Err TooLong))))
     limit own start n true = shows own start 0 n.recs
     limit own start n false = refl
 
-    go : (own : Found) (start : ℕ) (m : Option Node) → Of calls.FindOver (found_over_told (over_of own (find_on k start m)))
+    go : (own : (Result (Optional Found) Refusal)) (start : ℕ) (m : Option Node) → Of calls.FindOver (found_over_told (over_of own (find_on k start m)))
     go own start none = refl
     go own start (some n) = limit own start n (leb (length k) max_key)
 
 listed-over : (q : Party) (i : ℕ) (k out o t : Bytes) → Of calls.ListOver (listed_over_told (lent_list_over q i k out o t).answer)
 unfolding listed_over_told among calls.refusals
 listed-over q i k out o t =
-    from-both (λ (a : Given ListedOver Bytes). Of calls.ListOver (listed_over_told a.answer)) (λ w. given (merged.Refused w BadTable) out) (list_over (p t) q i k out) (λ w. refl)
+    from-both (λ (a : Given (Result ℕ RefusedOver) Bytes). Of calls.ListOver (listed_over_told a.answer)) (λ w. given (Err (record { which = w; why = BadTable })) out) (list_over (p t) q i k out) (λ w. refl)
     (λ n u. go (sees (p t) q) n (node_of i (seen (p t) q u))) o t
   where
     p : Bytes → Profile
     p t = (decode_whole t).kind.profile
 
     into : (hits : Bytes) (b : Bool)
-        → Of calls.ListOver (listed_over_told (pick b (given (merged.Hits (length hits)) (put 0 hits out)) (given (merged.Refused which.Neither NoPlace) out)).answer)
+        → Of calls.ListOver (listed_over_told (pick b (given (Ok (length hits)) (put 0 hits out)) (given (Err (record { which = which.Neither; why = NoPlace })) out)).answer)
     into hits true = refl
     into hits false = refl
 
-    limit : (hits : Bytes) (b : Bool) → Of calls.ListOver (listed_over_told (pick b (merging.list_into hits out) (given (merged.Refused which.Neither TooLong) out)).answer)
+    limit : (hits : Bytes) (b : Bool) → Of calls.ListOver (listed_over_told (pick b (merging.list_into hits out) (given (Err (record { which = which.Neither; why = TooLong })) out)).answer)
     limit hits true = into hits (leb (length hits) (length out))
     limit hits false = refl
 
@@ -508,16 +490,16 @@ grid-made : (t g : Bytes) → Of calls.NewGrid (answer_told (lent_new_grid t g).
 unfolding lent_new_grid answer_told among calls.refusals
 grid-made t g = go (eqb (length g) grid_width && valid_whole t)
   where
-    go : (b : Bool) → Of calls.NewGrid (answer_told (pick b (given plain.Done (encode_grid (new_grid (numbers_of (decode_whole t).table)))) (given (plain.Refused BadTable) g)).answer)
+    go : (b : Bool) → Of calls.NewGrid (answer_told (pick b (given done (encode_grid (new_grid (numbers_of (decode_whole t).table)))) (given (Err BadTable) g)).answer)
     go true = refl
     go false = refl
 
 -- 14 of the two, else what the table says
-with-column : (kind : calls.Kind) (g t : Bytes) (o : Given Answer Whole) (after : Bytes) → Of kind (answer_told (plain.Refused BadTable)) → Of kind (answer_told o.answer)
-    → Of kind (answer_told (pick (valid_both g t) (given o.answer (beside (grid_on o.answer after g) (encode_whole o.lent))) (given (plain.Refused BadTable) (beside g t))).answer)
+with-column : (kind : calls.Kind) (g t : Bytes) (o : Given (Result (Unit {0}) Refusal) Whole) (after : Bytes) → Of kind (answer_told (Err BadTable)) → Of kind (answer_told o.answer)
+    → Of kind (answer_told (pick (valid_both g t) (given o.answer (beside (grid_on o.answer after g) (encode_whole o.lent))) (given (Err BadTable) (beside g t))).answer)
 with-column kind g t o after bad f = go (valid_both g t)
   where
-    go : (b : Bool) → Of kind (answer_told (pick b (given o.answer (beside (grid_on o.answer after g) (encode_whole o.lent))) (given (plain.Refused BadTable) (beside g t))).answer)
+    go : (b : Bool) → Of kind (answer_told (pick b (given o.answer (beside (grid_on o.answer after g) (encode_whole o.lent))) (given (Err BadTable) (beside g t))).answer)
     go true = f
     go false = bad
 
@@ -527,7 +509,7 @@ came i g t =
     with-column calls.GridAddNode g t (add_whole i (decode_whole t)) (encode_grid (add_column i (decode_grid g))) refl
     (go (decode_whole t).table (among i (numbers_of (decode_whole t).table)) (ltb (length (decode_whole t).table) max_nodes))
   where
-    go : (u : Table) (a b : Bool) → Of calls.GridAddNode (answer_told (pick a (gives plain.Done u) (pick b (gives plain.Done (add_node i u)) (gives (plain.Refused NinthNode) u))).answer)
+    go : (u : Table) (a b : Bool) → Of calls.GridAddNode (answer_told (pick a (gives done u) (pick b (gives done (add_node i u)) (gives (Err NinthNode) u))).answer)
     go u true b = refl
     go u false true = refl
     go u false false = refl
@@ -538,7 +520,7 @@ went i g t =
     with-column calls.GridRemoveNode g t (remove_whole i (decode_whole t)) (encode_grid (drop_column i (decode_grid g))) refl
     (go (decode_whole t).table (among i (numbers_of (decode_whole t).table)))
   where
-    go : (u : Table) (a : Bool) → Of calls.GridRemoveNode (answer_told (pick a (gives plain.Done (drop_node i u)) (gives (plain.Refused NoNode) u)).answer)
+    go : (u : Table) (a : Bool) → Of calls.GridRemoveNode (answer_told (pick a (gives done (drop_node i u)) (gives (Err NoNode) u)).answer)
     go u true = refl
     go u false = refl
 
@@ -546,7 +528,7 @@ was-told : (p edition : ℕ) (d g : Bytes) → Of calls.Tell (answer_told (lent_
 unfolding lent_tell answer_told among calls.refusals
 was-told p edition d g = go (valid_grid g) (ltb p max_peers)
   where
-    go : (b c : Bool) → Of calls.Tell (answer_told (pick b (pick c (tell_on p (digest.read_digest edition d) g) (given (plain.Refused BadPeer) g)) (given (plain.Refused BadTable) g)).answer)
+    go : (b c : Bool) → Of calls.Tell (answer_told (pick b (pick c (tell_on p (digest.read_digest edition d) g) (given (Err BadPeer) g)) (given (Err BadTable) g)).answer)
     go true true = digest-comes (λ x. Of calls.Tell (answer_told (tell_on p x g).answer)) refl (λ n. refl) refl (λ ds rest. refl) edition d
     go true false = refl
     go false c = refl
@@ -556,7 +538,7 @@ unfolding lent_take_out answer_told among calls.refusals
 taken_out p g = go (valid_grid g) (ltb p max_peers)
   where
     go : (b c : Bool)
-        → Of calls.TakeOut (answer_told (pick b (pick c (given plain.Done (encode_grid (take_out p (decode_grid g)))) (given (plain.Refused BadPeer) g)) (given (plain.Refused BadTable) g)).answer)
+        → Of calls.TakeOut (answer_told (pick b (pick c (given done (encode_grid (take_out p (decode_grid g)))) (given (Err BadPeer) g)) (given (Err BadTable) g)).answer)
     go true true = refl
     go true false = refl
     go false c = refl
@@ -566,7 +548,7 @@ unfolding lent_least least_told among calls.refusals
 least-is i g = go (valid_grid g) (somebody (decode_grid g)) (among i (columns (decode_grid g)))
   where
     go : (b c d : Bool)
-        → Of calls.LeastMax (least_told (pick b (pick c (pick d (least.Is (least_of (maxes_told i (decode_grid g)))) (least.Refused NoNode)) (least.Refused NobodyPresent)) (least.Refused BadTable)))
+        → Of calls.LeastMax (least_told (pick b (pick c (pick d (Ok (least_of (maxes_told i (decode_grid g)))) (Err NoNode)) (Err NobodyPresent)) (Err BadTable)))
     go true true true = refl
     go true true false = refl
     go true false d = refl
@@ -583,7 +565,7 @@ seen-is p i g = go (valid_grid g) (ltb p max_peers) (among i (columns (decode_gr
     j = place_of i (columns x)
 
     go : (b c d e : Bool)
-        → Of calls.SeenBy (seen_told (pick b (pick c (pick d (pick e (told.Pair (get_or (get_or x.gcs p []) j 0) (get_or (get_or x.maxes p []) j 0)) told.Absent) (told.Refused NoNode)) (told.Refused BadPeer)) (told.Refused BadTable)))
+        → Of calls.SeenBy (seen_told (pick b (pick c (pick d (pick e (Ok (Some (record { last_gc = (get_or (get_or x.gcs p []) j 0); max = (get_or (get_or x.maxes p []) j 0) }))) (Ok None)) (Err NoNode)) (Err BadPeer)) (Err BadTable)))
     go true true true true = refl
     go true true true false = refl
     go true true false e = refl
@@ -595,45 +577,45 @@ unfolding lent_careful answer_told among calls.refusals
 carefully now grace g t = go (valid_both g t) (somebody (decode_grid g))
   where
     go : (b c : Bool)
-        → Of calls.RemoveCarefully (answer_told (pick b (pick c (given plain.Done (encode_whole (with_table (carefully_removed (decode_grid g) now grace (decode_whole t).table) (decode_whole t)))) (given (plain.Refused NobodyPresent) t)) (given (plain.Refused BadTable) t)).answer)
+        → Of calls.RemoveCarefully (answer_told (pick b (pick c (given done (encode_whole (with_table (carefully_removed (decode_grid g) now grace (decode_whole t).table) (decode_whole t)))) (given (Err NobodyPresent) t)) (given (Err BadTable) t)).answer)
     go true true = refl
     go true false = refl
     go false c = refl
 
 -- ---- readings of a table
 
-counts : (l : Bytes) → Of calls.NodeCount (count_told (from_table (count.Refused BadTable) node_count l))
+counts : (l : Bytes) → Of calls.NodeCount (count_told (from_table (Err BadTable) node_count l))
 unfolding count_told among calls.refusals
-counts l = from-table (λ a. Of calls.NodeCount (count_told a)) (count.Refused BadTable) node_count refl (λ t. refl) l
+counts l = from-table (λ a. Of calls.NodeCount (count_told a)) (Err BadTable) node_count refl (λ t. refl) l
 
-numbered : (i : ℕ) (l : Bytes) → Of calls.NodeNumber (node_number_told (from_table (number.Refused BadTable) (node_number i) l))
+numbered : (i : ℕ) (l : Bytes) → Of calls.NodeNumber (node_number_told (from_table (Err BadTable) (node_number i) l))
 unfolding node_number_told among calls.refusals
-numbered i l = from-table (λ a. Of calls.NodeNumber (node_number_told a)) (number.Refused BadTable) (node_number i) refl (λ t. go (element_at i t)) l
+numbered i l = from-table (λ a. Of calls.NodeNumber (node_number_told a)) (Err BadTable) (node_number i) refl (λ t. go (element_at i t)) l
   where
     go : (o : Option Entry) → Of calls.NodeNumber (node_number_told (number_on o))
     go none = refl
     go (some e) = refl
 
-headed : (i : ℕ) (l : Bytes) → Of calls.NodeHeader (node_header_told (from_table (header.Refused BadTable) (node_header i) l))
+headed : (i : ℕ) (l : Bytes) → Of calls.NodeHeader (node_header_told (from_table (Err BadTable) (node_header i) l))
 unfolding node_header_told among calls.refusals
-headed i l = from-table (λ a. Of calls.NodeHeader (node_header_told a)) (header.Refused BadTable) (node_header i) refl (λ t. go (node_of i t)) l
+headed i l = from-table (λ a. Of calls.NodeHeader (node_header_told a)) (Err BadTable) (node_header i) refl (λ t. go (node_of i t)) l
   where
     go : (o : Option Node) → Of calls.NodeHeader (node_header_told (header_on o))
     go none = refl
     go (some n) = refl
 
-record-counts : (p : Profile) (q : Party) (i : ℕ) (l : Bytes) → Of calls.RecordCount (count_told (from_table (count.Refused BadTable) (record_count_as p q i) l))
+record-counts : (p : Profile) (q : Party) (i : ℕ) (l : Bytes) → Of calls.RecordCount (count_told (from_table (Err BadTable) (record_count_as p q i) l))
 unfolding count_told among calls.refusals
-record-counts p q i l = from-table (λ a. Of calls.RecordCount (count_told a)) (count.Refused BadTable) (record_count_as p q i) refl (λ t. go (node_of i (seen p q t))) l
+record-counts p q i l = from-table (λ a. Of calls.RecordCount (count_told a)) (Err BadTable) (record_count_as p q i) refl (λ t. go (node_of i (seen p q t))) l
   where
     go : (o : Option Node) → Of calls.RecordCount (count_told (records_on o))
     go none = refl
     go (some n) = refl
 
-records : (p : Profile) (q : Party) (i j : ℕ) (l : Bytes) → Of calls.RecordAt (record_read_told (from_table (rec.Refused BadTable) (read_record_as p q i j) l))
+records : (p : Profile) (q : Party) (i j : ℕ) (l : Bytes) → Of calls.RecordAt (record_read_told (from_table (Err BadTable) (read_record_as p q i j) l))
 unfolding record_read_told among calls.refusals
 records p q i j l =
-    from-table (λ a. Of calls.RecordAt (record_read_told a)) (rec.Refused BadTable) (read_record_as p q i j) refl (λ t. go (node_start i (seen p q t)) (node_of i (seen p q t))) l
+    from-table (λ a. Of calls.RecordAt (record_read_told a)) (Err BadTable) (read_record_as p q i j) refl (λ t. go (node_start i (seen p q t)) (node_of i (seen p q t))) l
   where
     at : (start : ℕ) (o : Option Rec) → Of calls.RecordAt (record_read_told (read_at start j o))
     at start none = refl
@@ -643,10 +625,10 @@ records p q i j l =
     go start none = refl
     go start (some n) = at start (element_at j n.recs)
 
-record-places : (p : Profile) (q : Party) (i j : ℕ) (l : Bytes) → Of calls.RecordOf (record_read_told (from_table (rec.Refused BadTable) (record_of_as p q i j) l))
+record-places : (p : Profile) (q : Party) (i j : ℕ) (l : Bytes) → Of calls.RecordOf (record_read_told (from_table (Err BadTable) (record_of_as p q i j) l))
 unfolding record_read_told among calls.refusals
 record-places p q i j l =
-    from-table (λ a. Of calls.RecordOf (record_read_told a)) (rec.Refused BadTable) (record_of_as p q i j) refl (λ t. go (node_place i) (element_at i (seen p q t))) l
+    from-table (λ a. Of calls.RecordOf (record_read_told a)) (Err BadTable) (record_of_as p q i j) refl (λ t. go (node_place i) (element_at i (seen p q t))) l
   where
     at : (start : ℕ) (o : Option Rec) → Of calls.RecordOf (record_read_told (read_at start j o))
     at start none = refl
@@ -667,19 +649,19 @@ sought k start j (r ∷ l) = go (same_bytes k r.kv.key) (sought k start (suc j) 
     go true e = refl
     go false e = e
 
-keyed : (p : Profile) (q : Party) (i : ℕ) (k l : Bytes) → Of calls.RecordByKey (record_read_told (from_table (rec.Refused BadTable) (record_by_key_as p q i k) l))
+keyed : (p : Profile) (q : Party) (i : ℕ) (k l : Bytes) → Of calls.RecordByKey (record_read_told (from_table (Err BadTable) (record_by_key_as p q i k) l))
 unfolding record_read_told among calls.refusals
 keyed p q i k l =
-    from-table (λ a. Of calls.RecordByKey (record_read_told a)) (rec.Refused BadTable) (record_by_key_as p q i k) refl
+    from-table (λ a. Of calls.RecordByKey (record_read_told a)) (Err BadTable) (record_by_key_as p q i k) refl
     (λ t. named (sees p q k) (record_by_key i k (seen p q t)) (go (node_start i (seen p q t)) (node_of i (seen p q t)))) l
   where
-    named : (b : Bool) (r : RecordRead) → Of calls.RecordByKey (record_read_told r) → Of calls.RecordByKey (record_read_told (looking.unless_other b r))
+    named : (b : Bool) (r : (Result (Optional RecordRead) Refusal)) → Of calls.RecordByKey (record_read_told r) → Of calls.RecordByKey (record_read_told (looking.unless_other b r))
     named true r h = h
-    named false (rec.Is k v r) h = refl
-    named false rec.Nothing h = refl
-    named false (rec.Refused r) h = h
+    named false (Ok (Some r)) h = refl
+    named false (Ok None) h = refl
+    named false (Err r) h = h
 
-    limit : (start : ℕ) (n : Node) (b : Bool) → Of calls.RecordByKey (record_read_told (pick b (read_key k start 0 n.recs) (rec.Refused TooLong)))
+    limit : (start : ℕ) (n : Node) (b : Bool) → Of calls.RecordByKey (record_read_told (pick b (read_key k start 0 n.recs) (Err TooLong)))
     limit start n true = sought k start 0 n.recs
     limit start n false = refl
 
@@ -688,27 +670,27 @@ keyed p q i k l =
     go start (some n) = limit start n (leb (length k) max_key)
 
 -- where a party's rows begin
-fronts : (p : Profile) (q : Party) (i : ℕ) (l : Bytes) → Of calls.Front (count_told (from_table (count.Refused BadTable) (front_as p q i) l))
+fronts : (p : Profile) (q : Party) (i : ℕ) (l : Bytes) → Of calls.Front (count_told (from_table (Err BadTable) (front_as p q i) l))
 unfolding count_told among calls.refusals
-fronts p q i l = from-table (λ a. Of calls.Front (count_told a)) (count.Refused BadTable) (front_as p q i) refl (λ t. go (node_of i t)) l
+fronts p q i l = from-table (λ a. Of calls.Front (count_told a)) (Err BadTable) (front_as p q i) refl (λ t. go (node_of i t)) l
   where
     go : (o : Option Node) → Of calls.Front (count_told (front_told p q o))
     go none = refl
     go (some n) = refl
 
-all-rows : (p : Profile) (q : Party) (i : ℕ) (l : Bytes) → Of calls.NodeRows (rows_told (from_table (rows.Refused BadTable) (node_rows_as p q i) l))
+all-rows : (p : Profile) (q : Party) (i : ℕ) (l : Bytes) → Of calls.NodeRows (rows_told (from_table (Err BadTable) (node_rows_as p q i) l))
 unfolding rows_told among calls.refusals
-all-rows p q i l = from-table (λ a. Of calls.NodeRows (rows_told a)) (rows.Refused BadTable) (node_rows_as p q i) refl (λ t. go (node_start i (seen p q t)) (node_of i (seen p q t))) l
+all-rows p q i l = from-table (λ a. Of calls.NodeRows (rows_told a)) (Err BadTable) (node_rows_as p q i) refl (λ t. go (node_start i (seen p q t)) (node_of i (seen p q t))) l
   where
     go : (start : ℕ) (o : Option Node) → Of calls.NodeRows (rows_told (rows_on start o))
     go start none = refl
     go start (some n) = refl
 
-some-rows : (p : Profile) (q : Party) (i : ℕ) (k l : Bytes) → Of calls.PrefixRows (rows_told (from_table (rows.Refused BadTable) (prefix_rows_as p q i k) l))
+some-rows : (p : Profile) (q : Party) (i : ℕ) (k l : Bytes) → Of calls.PrefixRows (rows_told (from_table (Err BadTable) (prefix_rows_as p q i k) l))
 unfolding rows_told among calls.refusals
-some-rows p q i k l = from-table (λ a. Of calls.PrefixRows (rows_told a)) (rows.Refused BadTable) (prefix_rows_as p q i k) refl (λ t. go (node_start i (seen p q t)) (node_of i (seen p q t))) l
+some-rows p q i k l = from-table (λ a. Of calls.PrefixRows (rows_told a)) (Err BadTable) (prefix_rows_as p q i k) refl (λ t. go (node_start i (seen p q t)) (node_of i (seen p q t))) l
   where
-    limit : (start : ℕ) (n : Node) (b : Bool) → Of calls.PrefixRows (rows_told (pick b (run_rows k start n.recs) (rows.Refused TooLong)))
+    limit : (start : ℕ) (n : Node) (b : Bool) → Of calls.PrefixRows (rows_told (pick b (run_rows k start n.recs) (Err TooLong)))
     limit start n true = refl
     limit start n false = refl
 
@@ -716,10 +698,10 @@ some-rows p q i k l = from-table (λ a. Of calls.PrefixRows (rows_told a)) (rows
     go start none = refl
     go start (some n) = limit start n (leb (length k) max_key)
 
-texts : (p : Profile) (q : Party) (x : Text) (i j : ℕ) (l : Bytes) → Of calls.FindText (found_told (from_table (found.Refused BadTable) (text_found_as p q x i j) l))
+texts : (p : Profile) (q : Party) (x : Text) (i j : ℕ) (l : Bytes) → Of calls.FindText (found_told (from_table (Err BadTable) (text_found_as p q x i j) l))
 unfolding found_told among calls.refusals
 texts p q x i j l =
-    from-table (λ a. Of calls.FindText (found_told a)) (found.Refused BadTable) (text_found_as p q x i j) refl (λ t. go (node_start i (seen p q t)) (node_of i (seen p q t))) l
+    from-table (λ a. Of calls.FindText (found_told a)) (Err BadTable) (text_found_as p q x i j) refl (λ t. go (node_start i (seen p q t)) (node_of i (seen p q t))) l
   where
     at : (start : ℕ) (o : Option Rec) → Of calls.FindText (found_told (place_on x start j o))
     at start none = refl
@@ -731,24 +713,24 @@ texts p q x i j l =
 
 -- ---- digests
 
-writes : (k : calls.Kind) (b : Bytes) (place : ℕ) (d : Bytes) → Of k (written_told (written.Refused NoPlace)) → ((n : ℕ) → Of k (written_told (written.Bytes n)))
+writes : (k : calls.Kind) (b : Bytes) (place : ℕ) (d : Bytes) → Of k (written_told (Err NoPlace)) → ((n : ℕ) → Of k (written_told (Ok n)))
     → Of k (written_told (digest.write_bytes b place d).answer)
 writes k b place d short fits = go (digest.fits_at place (length b) d)
   where
-    go : (c : Bool) → Of k (written_told (pick c (given (written.Bytes (length b)) (put place b d)) (given (written.Refused NoPlace) d)).answer)
+    go : (c : Bool) → Of k (written_told (pick c (given (Ok (length b)) (put place b d)) (given (Err NoPlace) d)).answer)
     go true = fits (length b)
     go false = short
 
 digests : (edition : ℕ) (excluded : List ℕ) (place : ℕ) (d l : Bytes)
-    → Of calls.WriteDigest (written_told (from_table (given (written.Refused BadTable) d) (λ t. digest.write_digest edition excluded place t d) l).answer)
+    → Of calls.WriteDigest (written_told (from_table (given (Err BadTable) d) (λ t. digest.write_digest edition excluded place t d) l).answer)
 unfolding digest.write_digest written_told among calls.refusals
 digests edition excluded place d l =
-    from-table (λ (a : Given Written Bytes). Of calls.WriteDigest (written_told a.answer)) (given (written.Refused BadTable) d)
+    from-table (λ (a : Given (Result ℕ Refusal) Bytes). Of calls.WriteDigest (written_told a.answer)) (given (Err BadTable) d)
     (λ t. digest.write_digest edition excluded place t d) refl
     (λ t. known t (digest.is_edition edition)) l
   where
     known : (t : Table) (b : Bool)
-        → Of calls.WriteDigest (written_told (pick b (digest.write_bytes (digest.digest_bytes edition (digest.digest_of excluded t)) place d) (given (written.Refused BadEdition) d)).answer)
+        → Of calls.WriteDigest (written_told (pick b (digest.write_bytes (digest.digest_bytes edition (digest.digest_of excluded t)) place d) (given (Err BadEdition) d)).answer)
     known t true = writes calls.WriteDigest (digest.digest_bytes edition (digest.digest_of excluded t)) place d refl (λ n. refl)
     known t false = refl
 
@@ -770,10 +752,10 @@ entries edition l i =
 -- ---- deltas
 
 computes : (edition : ℕ) (excluded ties : List ℕ) (mtu place : ℕ) (told d l : Bytes)
-    → Of calls.Compute (computed_told (from_table (given (computed.Refused BadTable) d) (λ t. computing.compute edition excluded ties mtu place told t d) l).answer)
+    → Of calls.Compute (computed_told (from_table (given (Err BadTable) d) (λ t. computing.compute edition excluded ties mtu place told t d) l).answer)
 unfolding computing.compute computed_told among calls.refusals
 computes edition excluded ties mtu place told d l =
-    from-table (λ (a : Given Computed Bytes). Of calls.Compute (computed_told a.answer)) (given (computed.Refused BadTable) d)
+    from-table (λ (a : Given (Result Sent Refusal) Bytes). Of calls.Compute (computed_told a.answer)) (given (Err BadTable) d)
     (λ t. computing.compute edition excluded ties mtu place told t d) refl
     (λ t. known t (digest.is_edition edition)) l
   where
@@ -781,26 +763,26 @@ computes edition excluded ties mtu place told d l =
     read t = digest-comes (λ x. Of calls.Compute (computed_told (computing.on_digest excluded ties mtu place x t d).answer)) refl (λ n. refl) refl (λ ds rest. refl) edition told
 
     go : (t : Table) (a b c : Bool)
-        → Of calls.Compute (computed_told (pick a (pick b (pick c (computing.on_digest excluded ties mtu place (digest.read_digest edition told) t d) (given (computed.Refused BadTies) d)) (given (computed.Refused NoPlace) d)) (given (computed.Refused BadMtu) d)).answer)
+        → Of calls.Compute (computed_told (pick a (pick b (pick c (computing.on_digest excluded ties mtu place (digest.read_digest edition told) t d) (given (Err BadTies) d)) (given (Err NoPlace) d)) (given (Err BadMtu) d)).answer)
     go t false b c = refl
     go t true false c = refl
     go t true true false = refl
     go t true true true = read t
 
     known : (t : Table) (b : Bool)
-        → Of calls.Compute (computed_told (pick b (computing.compute_for excluded ties mtu place (digest.read_digest edition told) t d) (given (computed.Refused BadEdition) d)).answer)
+        → Of calls.Compute (computed_told (pick b (computing.compute_for excluded ties mtu place (digest.read_digest edition told) t d) (given (Err BadEdition) d)).answer)
     known t true = go t (leb least_mtu mtu && leb mtu max_delta) (digest.fits_at place mtu d) (eqb (length ties) (length t))
     known t false = refl
 
 plans : (edition : ℕ) (excluded nodes counts : List ℕ) (mtu place : ℕ) (told d l : Bytes)
-    → Of calls.ComputePlan (computed_told (from_table (given (computed.Refused BadTable) d) (λ t. compute_plan edition excluded nodes counts mtu place told t d) l).answer)
+    → Of calls.ComputePlan (computed_told (from_table (given (Err BadTable) d) (λ t. compute_plan edition excluded nodes counts mtu place told t d) l).answer)
 unfolding compute_plan computed_told among calls.refusals
 plans edition excluded nodes counts mtu place told d l =
-    from-table (λ (a : Given Computed Bytes). Of calls.ComputePlan (computed_told a.answer)) (given (computed.Refused BadTable) d)
+    from-table (λ (a : Given (Result Sent Refusal) Bytes). Of calls.ComputePlan (computed_told a.answer)) (given (Err BadTable) d)
     (λ t. compute_plan edition excluded nodes counts mtu place told t d) refl
     (λ t. go t (digest.is_edition edition) (leb least_mtu mtu && leb mtu max_delta) (digest.fits_at place mtu d)) l
   where
-    by : (x : List Op) (b : Bool) → Of calls.ComputePlan (computed_told (pick b (computing.written x place d) (given (computed.Refused BadPlan) d)).answer)
+    by : (x : List Op) (b : Bool) → Of calls.ComputePlan (computed_told (pick b (computing.written x place d) (given (Err BadPlan) d)).answer)
     by x true = refl
     by x false = refl
 
@@ -810,16 +792,16 @@ plans edition excluded nodes counts mtu place told d l =
         (λ ds rest. by (delta_by excluded nodes counts ds t) (accepts excluded nodes counts mtu ds t)) edition told
 
     go : (t : Table) (a b c : Bool)
-        → Of calls.ComputePlan (computed_told (pick a (pick b (pick c (plan_on excluded nodes counts mtu place (digest.read_digest edition told) t d) (given (computed.Refused NoPlace) d)) (given (computed.Refused BadMtu) d)) (given (computed.Refused BadEdition) d)).answer)
+        → Of calls.ComputePlan (computed_told (pick a (pick b (pick c (plan_on excluded nodes counts mtu place (digest.read_digest edition told) t d) (given (Err NoPlace) d)) (given (Err BadMtu) d)) (given (Err BadEdition) d)).answer)
     go t false b c = refl
     go t true false c = refl
     go t true true false = refl
     go t true true true = read t
 
-judges : (edition : ℕ) (excluded nodes counts : List ℕ) (mtu : ℕ) (told l : Bytes) → Of calls.PlanFault (judged_told (from_table (judged.Refused BadTable) (judge_plan edition excluded nodes counts mtu told) l))
+judges : (edition : ℕ) (excluded nodes counts : List ℕ) (mtu : ℕ) (told l : Bytes) → Of calls.PlanFault (judged_told (from_table (Err (not_sent.Refused BadTable)) (judge_plan edition excluded nodes counts mtu told) l))
 unfolding judge_plan judged_told among calls.refusals
 judges edition excluded nodes counts mtu told l =
-    from-table (λ (a : Judged). Of calls.PlanFault (judged_told a)) (judged.Refused BadTable) (judge_plan edition excluded nodes counts mtu told) refl
+    from-table (λ (a : (Result (Unit {0}) NotSent)). Of calls.PlanFault (judged_told a)) (Err (not_sent.Refused BadTable)) (judge_plan edition excluded nodes counts mtu told) refl
     (λ t. go t (digest.is_edition edition) (leb least_mtu mtu && leb mtu max_delta)) l
   where
     by : (n : ℕ) (b : Bool) → n ≡ pick b 0 23 → among n (calls.possible calls.PlanFault) ≡ true
@@ -831,7 +813,7 @@ judges edition excluded nodes counts mtu told l =
         digest-comes (λ x. Of calls.PlanFault (judged_told (judge_on excluded nodes counts mtu x t))) refl (λ n. refl) refl
         (λ ds rest. by (judged_told (judge excluded nodes counts mtu ds t)).number (is_accepted (judge excluded nodes counts mtu ds t)) (said-number excluded nodes counts mtu ds t)) edition told
 
-    go : (t : Table) (a b : Bool) → Of calls.PlanFault (judged_told (pick a (pick b (judge_on excluded nodes counts mtu (digest.read_digest edition told) t) (judged.Refused BadMtu)) (judged.Refused BadEdition)))
+    go : (t : Table) (a b : Bool) → Of calls.PlanFault (judged_told (pick a (pick b (judge_on excluded nodes counts mtu (digest.read_digest edition told) t) (Err (not_sent.Refused BadMtu))) (Err (not_sent.Refused BadEdition))))
     go t false b = refl
     go t true false = refl
     go t true true = read t
@@ -855,7 +837,7 @@ applies delta now answers l = start (valid_whole l)
     F r = among (number_of r) (calls.possible calls.Apply) ≡ true
 
     room : (ops : List Op) (u : Table) (m : Bytes) (b : Bool)
-        → Of calls.Apply (applied_told (pick {X = ApplyOutcome} b (record { answer = applied.Nodes (length (parts_of ops)); table = u; list = m }) (record { answer = applied.Refused NoPlace 0; table = (decode_whole l).table; list = answers })).answer)
+        → Of calls.Apply (applied_told (pick {X = ApplyOutcome} b (record { answer = Ok (length (parts_of ops)); table = u; list = m }) (record { answer = (Err (record { why = NoPlace; at = 0 })); table = (decode_whole l).table; list = answers })).answer)
     room ops u m true = refl
     room ops u m false = refl
 
@@ -863,7 +845,7 @@ applies delta now answers l = start (valid_whole l)
     go (Good ops) h = room ops _ _ (leb (length (parts_of ops)) (length answers))
     go (Faulty r at) h = h
 
-    start : (v : Bool) → Of calls.Apply (applied_told (pick v (stored_apply (decode_whole l) (apply_ops (apply_node (ways_in (decode_whole l).kind) now) ((ways_in (decode_whole l).kind).reads delta) (decode_whole l).table answers)) (given (applied.Refused BadTable 0) (both l answers))).answer)
+    start : (v : Bool) → Of calls.Apply (applied_told (pick v (stored_apply (decode_whole l) (apply_ops (apply_node (ways_in (decode_whole l).kind) now) ((ways_in (decode_whole l).kind).reads delta) (decode_whole l).table answers)) (given (Err (record { why = BadTable; at = 0 })) (both l answers))).answer)
     start true = go ((ways_in (decode_whole l).kind).reads delta) (delta-as F refl (λ n. refl) refl refl refl refl (decode_whole l).kind.profile refl refl delta)
     start false = refl
 
@@ -877,19 +859,19 @@ makes text out = in-among (made-numbers text out)
 
 -- ---- an exchange
 
-abbrev Asks : Ready → Type 0
-Asks ready.Yes = Unit {0}
-Asks (ready.No s r) = among (number_of r) (calls.possible calls.Exchange) ≡ true
+abbrev Asks : (Result (Unit {0}) Stopped) → Type 0
+Asks (Ok _) = Unit {0}
+Asks (Err s) = among (number_of s.why) (calls.possible calls.Exchange) ≡ true
 
-asks-numbers : (a b c : Bool) (next : Ready) → Asks next
-    → Asks (unless_refused (pick a (pick b (pick c asked.Good (asked.Refused BadTies)) (asked.Refused NoPlace)) (asked.Refused BadMtu)) next)
+asks-numbers : (a b c : Bool) (next : (Result (Unit {0}) Stopped)) → Asks next
+    → Asks (unless_refused (pick a (pick b (pick c done (Err BadTies)) (Err NoPlace)) (Err BadMtu)) next)
 unfolding among calls.refusals
 asks-numbers false b c next h = refl
 asks-numbers true false c next h = refl
 asks-numbers true true false next h = refl
 asks-numbers true true true next h = h
 
-asks-taking : (o : Profile) (formed b : Bool) → Asks (pick formed (pick b ready.Yes (ready.No Applying NoPlace)) (ready.No Applying (odd_number o)))
+asks-taking : (o : Profile) (formed b : Bool) → Asks (pick formed (pick b done (Err (record { step = Applying; why = NoPlace }))) (Err (record { step = Applying; why = (odd_number o) })))
 unfolding among calls.refusals
 asks-taking o true true = tt
 asks-taking o true false = refl
@@ -901,11 +883,11 @@ asks-on : (edition : ℕ) (unasked : List ℕ) (k : Rooms) (o : Profile) (formed
 unfolding ready_on rooms_for taking_for asked_of among calls.refusals
 asks-on edition unasked k o formed p f = known (digest.is_edition edition)
   where
-    go : (b : Bool) → Asks (pick b (unless_refused (asked_of k.mtu 0 k.delta k.ties (length p)) (taking_for o formed k.answers (length p))) (ready.No Digest NoPlace))
+    go : (b : Bool) → Asks (pick b (unless_refused (asked_of k.mtu 0 k.delta k.ties (length p)) (taking_for o formed k.answers (length p))) (Err (record { step = Digest; why = NoPlace })))
     go true = asks-numbers (mtu_fits k.mtu) (is_free 0 k.mtu k.delta) (eqb k.ties (length p)) _ (asks-taking o formed (leb (length p) k.answers))
     go false = refl
 
-    known : (b : Bool) → Asks (pick b (rooms_for edition unasked k o formed p f) (ready.No Digest BadEdition))
+    known : (b : Bool) → Asks (pick b (rooms_for edition unasked k o formed p f) (Err (record { step = Digest; why = BadEdition })))
     known true = go (leb (length (digest.digest_bytes edition (digest.digest_of unasked f))) k.digest)
     known false = refl
 
@@ -913,7 +895,7 @@ asks : (edition : ℕ) (unasked : List ℕ) (k : Rooms) (publisher follower : By
 unfolding ready_for among calls.refusals
 asks edition unasked k publisher follower = go (valid_whole follower) (valid_whole publisher)
   where
-    go : (u v : Bool) → Asks (pick u (pick v (ready_on edition unasked k (decode_whole follower).kind.profile (forms_fit publisher follower) (decode_whole publisher).table (decode_whole follower).table) (ready.No Delta BadTable)) (ready.No Digest BadTable))
+    go : (u v : Bool) → Asks (pick u (pick v (ready_on edition unasked k (decode_whole follower).kind.profile (forms_fit publisher follower) (decode_whole publisher).table (decode_whole follower).table) (Err (record { step = Delta; why = BadTable }))) (Err (record { step = Digest; why = BadTable })))
     go false v = refl
     go true false = refl
     go true true = asks-on edition unasked k (decode_whole follower).kind.profile (forms_fit publisher follower) (decode_whole publisher).table (decode_whole follower).table
@@ -925,11 +907,11 @@ exchanges g publisher follower = go (ready_for g.edition g.unasked (rooms_of g) 
     accepted : among 0 (calls.possible calls.Exchange) ≡ true
     accepted = among_first 0 (calls.refusals calls.Exchange)
 
-    go : (x : Ready) → ready_for g.edition g.unasked (rooms_of g) publisher follower ≡ x → Asks (ready_for g.edition g.unasked (rooms_of g) publisher follower)
+    go : (x : (Result (Unit {0}) Stopped)) → ready_for g.edition g.unasked (rooms_of g) publisher follower ≡ x → Asks (ready_for g.edition g.unasked (rooms_of g) publisher follower)
         → Of calls.Exchange (exchanged_told (after_asking g publisher follower x).answer)
-    go ready.Yes e h =
-        ap (λ (a : Exchanged). among (exchanged_told a).number (calls.possible calls.Exchange)) (ready-done g publisher follower (is-ready g publisher follower e)) ∙ accepted
-    go (ready.No s r) e h = subst Asks e h
+    go (Ok _) e h =
+        ap (λ (a : (Result Exchanged Stopped)). among (exchanged_told a).number (calls.possible calls.Exchange)) (ready-done g publisher follower (is-ready g publisher follower e)) ∙ accepted
+    go (Err s) e h = subst Asks e h
 
 -- ---- all calls
 

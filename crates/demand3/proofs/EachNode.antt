@@ -18,12 +18,12 @@ use Rattle.rules.specs.Local.{beat_on, call, call_on, gives, local_beat, offer, 
 use Rattle.rules.specs.Node.{Call, Decision, Node, Rec, act, beats, decide, due, fresh, last_gc_of, offer_of, remove, with_heartbeat}
 use Rattle.rules.specs.Sizes.{top}
 use Rattle.rules.specs.Table.{Table, node_of, remove_all, set_node}
-use Rattle.rules.specs.declared.Answer.TheVariants.{Done, Refused}
+use Rattle.std.specs.Prelude.{Err, Ok, Result}
+use Rattle.rules.specs.declared.Refusal.{Refusal}
+use Rattle.rules.specs.Results.{done}
 use Rattle.rules.specs.declared.Heartbeat.{Heartbeat}
 use Rattle.rules.specs.declared.Party.{Party}
 use Rattle.rules.specs.declared.Refusal.TheVariants.{Exhausted}
-use Rattle.rules.specs.declared.Written.{Written}
-use Rattle.rules.specs.declared.Written.TheVariants as written
 use Rattle.demand3.proofs.OneNode.{Facts, Makes, One, Step, comes_late, lost, stays, step_keeps, step-rises, they_beat, they_remove, they_take, we_beat, we_compute, we_remove, we_send, we_write, with_ours, with_theirs, with_write}
 use Rattle.demand3.specs.Demand3.{Rises}
 use Rattle.demand3.specs.World.{Beating, DeltaSent, DigestSent, Digesting, Exchange, Followers, Idle, Offering, Publishers, Side, World, Writing, after_digest, calls, given_after, given_in, on_exchange, on_sent, on_side}
@@ -103,7 +103,7 @@ module _ (i : ℕ) (t : Table) where
           next : Heartbeat
           next = beats (n.heartbeat.0 + 1)
 
-          room : (x : Bool) → Beaten i t (pick x (gives Done (set_node j (with_heartbeat next n) t)) (gives (Refused Exhausted) t)).table
+          room : (x : Bool) → Beaten i t (pick x (gives done (set_node j (with_heartbeat next n) t)) (gives (Err Exhausted) t)).table
           room true = beaten-set j n next q
           room false = unbeaten
 
@@ -185,9 +185,9 @@ module _ (ways : Ways) (i : ℕ) (w : World) where
   pub seen-digesting : (edition : ℕ) (excluded : List ℕ) (place : ℕ) (l : List ℕ) → Seen ways (at i w) (at i (calls ways (Digesting edition excluded place l) w))
   seen-digesting edition excluded place l = go (write_digest edition excluded place w.follower l).answer
     where
-      go : (a : Written) → Seen ways (at i w) (at i (on_exchange (after_digest place (write_digest edition excluded place w.follower l).lent a w.exchange) w))
-      go (written.Bytes n) = (_, lost, refl)
-      go (written.Refused r) = (_, stays, refl)
+      go : (a : (Result ℕ Refusal)) → Seen ways (at i w) (at i (on_exchange (after_digest place (write_digest edition excluded place w.follower l).lent a w.exchange) w))
+      go (Ok n) = (_, lost, refl)
+      go (Err r) = (_, stays, refl)
 
   -- bytes that are read and name no node twice are taken, if their part for the node may be
   pub seen-taken : Lawful ways → (now : ℕ) (l b : List ℕ) (ops : List Op)

@@ -21,14 +21,16 @@ use Rattle.rules.specs.Local.{call, call_as, unless_guarded}
 use Rattle.rules.specs.Node.{Call, KeyValue, Node}
 use Rattle.rules.specs.Profile.{Kind, guard_in, op_in_form, profile_obeys, recs_formed, recs_obey}
 use Rattle.rules.specs.Table.{Entry, Table, node_of}
-use Rattle.rules.specs.declared.Applied.TheVariants as applied
-use Rattle.rules.specs.declared.Computed.{Computed}
+use Rattle.std.specs.Prelude.{Err, Ok, Result}
+use Rattle.rules.specs.declared.Sent.{Sent}
 use Rattle.rules.specs.declared.Party.{Party}
 use Rattle.rules.specs.declared.Profile.{Profile}
 use Rattle.rules.specs.declared.Refusal.{Refusal}
+use Rattle.rules.specs.declared.DeltaFault.{DeltaFault}
 use Rattle.rules.specs.declared.Refusal.TheVariants.{NoPlace}
 use Rattle.rules.proofs.Formed.{obey-formed, removed-formed}
 use Rattle.rules.proofs.Tables.{behind-from}
+use Rattle.rules.proofs.Results.{err-is}
 use Rattle.profiles.proofs.Reading.{delta-formed}
 use Rattle.profiles.proofs.Sent.{append-formed, body-formed, delta-in-form, stale-formed}
 use Rattle.plan.proofs.Lines.{named-is}
@@ -87,7 +89,7 @@ module _ (p : Profile) where
           subst (λ (n : Node). recs_formed p n.recs ≡ true) (sym x.node_is) (obey-formed p x.entry.node.recs (all_from (λ (e : Entry). recs_obey p e.node.recs) t h x.entry x.held))
 
   -- so what is computed is read, and what was computed before stays
-  pub sent-read : (edition : ℕ) (excluded : List ℕ) (order : Order) (mtu place : ℕ) (digest : List ℕ) (t : Table) (l : List ℕ) (ss : List (List ℕ)) (o : Given Computed (List ℕ))
+  pub sent-read : (edition : ℕ) (excluded : List ℕ) (order : Order) (mtu place : ℕ) (digest : List ℕ) (t : Table) (l : List ℕ) (ss : List (List ℕ)) (o : Given (Result Sent Refusal) (List ℕ))
       → profile_obeys p t ≡ true
       → Comes edition excluded order mtu place digest t l o
       → (b : List ℕ)
@@ -112,7 +114,7 @@ module _ (p : Profile) where
 -- ---- applying
 
 -- what a table's profile reads is refused for answer places alone
-pub only-places : (k : Kind) (b : List ℕ) → IsRead k.profile b → (now : ℕ) (t : Table) (l : List ℕ) (why : Refusal) (at : ℕ) → (apply (ways_in k) b now t l).answer ≡ applied.Refused why at → why ≡ NoPlace
+pub only-places : (k : Kind) (b : List ℕ) → IsRead k.profile b → (now : ℕ) (t : Table) (l : List ℕ) (why : Refusal) (at : ℕ) → (apply (ways_in k) b now t l).answer ≡ (Err (record { why = why; at = at })) → why ≡ NoPlace
 unfolding apply
 only-places k b read now t l why at e = go (leb (length parts) (length l)) (ap (λ (o : Ops). (apply_ops (apply_node (ways_in k) now) o t l).answer) (sym read.1) ∙ e)
   where
@@ -121,8 +123,8 @@ only-places k b read now t l why at e = go (leb (length parts) (length l)) (ap (
 
     go : (c : Bool)
         → (pick {X = ApplyOutcome} c
-        (record { answer = applied.Nodes (length parts); table = (apply_each (apply_node (ways_in k) now) parts t).table; list = put 0 (codes (apply_each (apply_node (ways_in k) now) parts t).answers) l })
-        (record { answer = applied.Refused NoPlace 0; table = t; list = l })).answer ≡ applied.Refused why at
+        (record { answer = Ok (length parts); table = (apply_each (apply_node (ways_in k) now) parts t).table; list = put 0 (codes (apply_each (apply_node (ways_in k) now) parts t).answers) l })
+        (record { answer = (Err (record { why = NoPlace; at = 0 })); table = t; list = l })).answer ≡ (Err (record { why = why; at = at }))
         → why ≡ NoPlace
     go true q = let z : ◌≡◌ {A = ℕ} 0 1 = cc in absurd (omega arith)
-    go false q = cc
+    go false q = sym (ap (λ (f : DeltaFault). f.why) (err-is _ _ q))

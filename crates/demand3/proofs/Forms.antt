@@ -23,9 +23,9 @@ use Rattle.rules.proofs.Refusing.{whole-bytes}
 use Rattle.rules.specs.Local.{gc, gives}
 use Rattle.rules.specs.Node.{Rec, due, goes, last_gc_of, remove, scheduled}
 use Rattle.rules.specs.Table.{Entry, Table, numbers_of, obeys, remove_all}
-use Rattle.rules.specs.declared.Answer.TheVariants as plain
-use Rattle.rules.specs.declared.Computed.{Computed}
-use Rattle.rules.specs.declared.Computed.TheVariants as computed
+use Rattle.std.specs.Prelude.{Err, Result}
+use Rattle.rules.specs.declared.Sent.{Sent}
+use Rattle.rules.specs.Results.{done}
 use Rattle.rules.specs.declared.Refusal.{Refusal}
 use Rattle.rules.specs.declared.Refusal.TheVariants.{BadTable, NobodyPresent}
 use Rattle.grid.specs.Grid.{somebody}
@@ -94,7 +94,7 @@ pub removed-node : (removal : Removal) (t : Table) (i : ℕ) → (due : Rec → 
 removed-node removal t i = let x = removal-is removal t in (x.0 i, ap (node_at i) x.1 ∙ removed i t x.0)
 
 -- of lent bytes it is 14, or leaves the bytes of what it leaves of the table
-pub lent-removal : (removal : Removal) (l : Bytes) → lent_removed_by removal l ≡ (on_table (plain.Refused BadTable) (λ t. gives plain.Done (removed_by removal t)) l).lent
+pub lent-removal : (removal : Removal) (l : Bytes) → lent_removed_by removal l ≡ (on_table (Err BadTable) (λ t. gives done (removed_by removal t)) l).lent
 unfolding gc lent_careful valid_both on_table
 lent-removal (ByClock now grace) l = refl
 lent-removal (Carefully grid now grace) l = go (valid_grid grid) (valid_whole l) refl (fits_table (decode_grid grid) (decode_whole l).table) (somebody (decode_grid grid))
@@ -109,8 +109,8 @@ lent-removal (Carefully grid now grace) l = go (valid_grid grid) (valid_whole l)
     stays e = sym (whole-bytes l e)
 
     go : (g w : Bool) → valid_whole l ≡ w → (f s : Bool)
-        → (pick (g && (w && f)) (pick s (given plain.Done (encode_whole (with_table u (decode_whole l)))) (given (plain.Refused NobodyPresent) l)) (given (plain.Refused BadTable) l)).lent
-        ≡ (pick w (stored_in (decode_whole l) (gives plain.Done (pick (g && f) (pick s u t) t))) (given (plain.Refused BadTable) l)).lent
+        → (pick (g && (w && f)) (pick s (given done (encode_whole (with_table u (decode_whole l)))) (given (Err NobodyPresent) l)) (given (Err BadTable) l)).lent
+        ≡ (pick w (stored_in (decode_whole l) (gives done (pick (g && f) (pick s u t) t))) (given (Err BadTable) l)).lent
     go true true e true true = refl
     go true true e true false = stays e
     go true true e false s = stays e
@@ -128,8 +128,8 @@ pub record Made (excluded : List ℕ) (order : Order) (mtu : ℕ) (ds : List Nod
   pub stirs : wide_enough excluded order mtu ≡ true → (e : Entry) → e ∈ t → (told_of e.number ds).max < e.node.max → Stirs t (ops_by excluded order mtu ds t)
 
 -- what computing comes to: a refusal, or such a delta for what the digest's bytes tell, whose bytes then stand at its place
-pub data Comes (edition : ℕ) (excluded : List ℕ) (order : Order) (mtu place : ℕ) (d : List ℕ) (t : Table) (l : List ℕ) : Given Computed (List ℕ) → Type 0 where
-  refuses : (r : Refusal) → Comes edition excluded order mtu place d t l (given (computed.Refused r) l)
+pub data Comes (edition : ℕ) (excluded : List ℕ) (order : Order) (mtu place : ℕ) (d : List ℕ) (t : Table) (l : List ℕ) : Given (Result Sent Refusal) (List ℕ) → Type 0 where
+  refuses : (r : Refusal) → Comes edition excluded order mtu place d t l (given (Err r) l)
   writes : (ds : List NodeDigest) (rest : List ℕ) → read_digest edition d ≡ Entries ds rest → Made excluded order mtu ds t
       → part place (length (delta_bytes (ops_by excluded order mtu ds t))) (put place (delta_bytes (ops_by excluded order mtu ds t)) l) ≡ delta_bytes (ops_by excluded order mtu ds t)
       → Comes edition excluded order mtu place d t l (written (ops_by excluded order mtu ds t) place l)
@@ -141,7 +141,7 @@ comes edition excluded (InLine ties) mtu place d t l ok = go _ (line.comes editi
     stirs [] ds wide = line-stirs mtu ties ds t ok (leb-true least_width mtu wide)
     stirs (i ∷ is) ds wide = absurd (false≢true wide)
 
-    go : (o : Given Computed (List ℕ)) → line.Comes edition excluded ties mtu place d t l o → Comes edition excluded (InLine ties) mtu place d t l o
+    go : (o : Given (Result Sent Refusal) (List ℕ)) → line.Comes edition excluded ties mtu place d t l o → Comes edition excluded (InLine ties) mtu place d t l o
     go o (line.refuses r) = refuses r
     go o (line.writes ds rest e h g) =
         writes ds rest e
@@ -153,7 +153,7 @@ comes edition excluded (AsPlanned nodes counts) mtu place d t l ok = go _ (plann
     stirs ds taken [] q wide = absurd (false≢true wide)
     stirs ds taken (i ∷ is) q wide = planned-stirs excluded nodes counts mtu ds t ok taken i (subst (λ (l : List ℕ). i ∈ l) (sym q) (here refl))
 
-    go : (o : Given Computed (List ℕ)) → planner.PlanComes edition excluded nodes counts mtu place d t l o → Comes edition excluded (AsPlanned nodes counts) mtu place d t l o
+    go : (o : Given (Result Sent Refusal) (List ℕ)) → planner.PlanComes edition excluded nodes counts mtu place d t l o → Comes edition excluded (AsPlanned nodes counts) mtu place d t l o
     go o (planner.refuses r) = refuses r
     go o (planner.writes ds rest e taken h g) =
         writes ds rest e
@@ -167,6 +167,6 @@ comes edition excluded (AsPlanned nodes counts) mtu place d t l ok = go _ (plann
 -- of lent bytes it is 14, or what it is of the table
 pub lent-computing : (edition : ℕ) (excluded : List ℕ) (order : Order) (mtu place : ℕ) (digest d l : Bytes)
     → lent_compute_by edition excluded order mtu place digest d l
-    ≡ from_table (given (computed.Refused BadTable) d) (λ t. compute_by edition excluded order mtu place digest t d) l
+    ≡ from_table (given (Err BadTable) d) (λ t. compute_by edition excluded order mtu place digest t d) l
 lent-computing edition excluded (InLine ties) mtu place digest d l = refl
 lent-computing edition excluded (AsPlanned nodes counts) mtu place digest d l = refl

@@ -24,9 +24,9 @@ use Rattle.rules.specs.Digest.{write_digest}
 use Rattle.rules.specs.Node.{Call, Deleting, DeletingAfterTtl, KeyValue, Rec, Setting, SettingTtl, fresh}
 use Rattle.rules.specs.Sizes.{numbers}
 use Rattle.rules.specs.Table.{Table, among, node_of, numbers_of, obeys, remove_all}
-use Rattle.rules.specs.declared.Computed.{Computed}
-use Rattle.rules.specs.declared.Written.{Written}
-use Rattle.rules.specs.declared.Written.TheVariants as written
+use Rattle.std.specs.Prelude.{Err, Ok, Result}
+use Rattle.rules.specs.declared.Refusal.{Refusal}
+use Rattle.rules.specs.declared.Sent.{Sent}
 use Rattle.demand3.proofs.EachNode.{Seen, at, node_at, or_fresh, parts_in, seen-applying, seen-arriving, seen-beating, seen-computed, seen-digesting, seen-facts, seen-offering, seen-receiving, seen-removing, seen-rises, seen-sent, seen-writing, sent_of}
 use Rattle.demand3.proofs.Forms.{Comes, comes, refuses, removal-is, writes}
 use Rattle.demand3.proofs.OnTheWay.{Sendable}
@@ -166,12 +166,12 @@ module _ (ways : Ways) (law : Lawful ways) (is : List ℕ) (w : World) (ok : InO
 
   -- a delta that is computed for any bytes as a digest, in any order
   module _ (edition : ℕ) (excluded : List ℕ) (order : Order) (mtu place : ℕ) (l d : List ℕ) where
-    next-computing : w.exchange ≡ DigestSent d → (o : Given Computed (List ℕ)) → Comes edition excluded order mtu place d w.publisher l o → Next ways is w (on_exchange (after_delta place o.lent o.answer (DigestSent d)) (on_sent (sent_after place o.lent o.answer w.sent) w))
+    next-computing : w.exchange ≡ DigestSent d → (o : Given (Result Sent Refusal) (List ℕ)) → Comes edition excluded order mtu place d w.publisher l o → Next ways is w (on_exchange (after_delta place o.lent o.answer (DigestSent d)) (on_sent (sent_after place o.lent o.answer w.sent) w))
     next-computing x o (refuses r) = subst (λ (y : Exchange). Next ways is w (on_exchange y w)) x stays-so
     next-computing x o (writes ds rest e made there) =
         subst (λ (b : List ℕ). Next ways is w (on_exchange (DeltaSent b) (on_sent (b ∷ w.sent) w))) (sym there) (next-sending _ made.sendable)
 
-    next-keeping : (o : Given Computed (List ℕ)) → Comes edition excluded order mtu place d w.publisher l o → Next ways is w (on_sent (sent_after place o.lent o.answer w.sent) w)
+    next-keeping : (o : Given (Result Sent Refusal) (List ℕ)) → Comes edition excluded order mtu place d w.publisher l o → Next ways is w (on_sent (sent_after place o.lent o.answer w.sent) w)
     next-keeping o (refuses r) = stays-so
     next-keeping o (writes ds rest e made there) =
         subst (λ (b : List ℕ). Next ways is w (on_sent (b ∷ w.sent) w)) (sym there) (next-kept _ made.sendable)
@@ -246,9 +246,9 @@ module _ (ways : Ways) (law : Lawful ways) (is : List ℕ) (w : World) (ok : InO
   next-calls (Removing s removal) p = next-removed s removal
   next-calls (Digesting edition excluded place l) p = record { seen = λ j. seen-digesting ways j w edition excluded place l; order = sent-out _ w.sent (go (write_digest edition excluded place w.follower l).answer) ok.all_read }
     where
-      go : (a : Written) → Readable (after_digest place (write_digest edition excluded place w.follower l).lent a w.exchange)
-      go (written.Bytes n) = tt
-      go (written.Refused r) = ok.readable
+      go : (a : (Result ℕ Refusal)) → Readable (after_digest place (write_digest edition excluded place w.follower l).lent a w.exchange)
+      go (Ok n) = tt
+      go (Err r) = ok.readable
   next-calls (Computing edition excluded order mtu place l) p = go w.exchange refl
     where
       go : (x : Exchange) → w.exchange ≡ x → Next ways is w (on_exchange (computed_for edition excluded order mtu place l w.publisher x) (on_sent (sent_on edition excluded order mtu place l w.publisher x w.sent) w))

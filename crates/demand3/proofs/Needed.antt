@@ -8,7 +8,7 @@ use native.Mathlib.Omega.{arith}
 use lib.Dec.{leb, ltb}
 use lib.ListN.{length, take}
 use borrow.Author.Tests.{leb-false, leb-true, lt-leb, ltb-false, ltb-true}
-use Rattle.fields.specs.Choice.{◌∈◌, all, here, pick}
+use Rattle.fields.specs.Choice.{◌∈◌, here, pick}
 use Rattle.rules.proofs.Sending.{carried, node_delta}
 use Rattle.rules.proofs.Stale.{Rising, rising-stale, rising-take, stale-fewer, stale-from, stale-length, stale-less, take_in, top-is, top_within, top_of}
 use Rattle.rules.proofs.Taking.{Came, FromOf, came, from-no-reset, from-of, left, no-reset, reset, reset_due, status-apply, status-old, status-reset, took}

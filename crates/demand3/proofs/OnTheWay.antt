@@ -27,8 +27,8 @@ use Rattle.rules.specs.Node.{Node}
 use Rattle.rules.specs.Sizes.{max_delta}
 use Rattle.rules.specs.Table.{Entry, Table, among, obeys}
 use Rattle.rules.specs.declared.Refusal.TheVariants.{BadEdition, NoPlace}
-use Rattle.rules.specs.declared.Written.{Written}
-use Rattle.rules.specs.declared.Written.TheVariants as written_as
+use Rattle.std.specs.Prelude.{Err, Ok, Result}
+use Rattle.rules.specs.declared.Refusal.{Refusal}
 use Rattle.demand3.proofs.EachNode.{node_at, or_fresh}
 use Rattle.demand3.specs.Demand3.{wrote_digest}
 use Rattle.demand3.specs.World.{DigestSent, Exchange, after_digest, digested}
@@ -45,16 +45,16 @@ digest-written edition excluded place l t x e = known (is_edition edition) refl 
     b : List ℕ
     b = digest_bytes edition (digest_of excluded t)
 
-    Out : Bool → Given Written (List ℕ)
-    Out c = pick c (given (written_as.Bytes (length b)) (put place b l)) (given (written_as.Refused NoPlace) l)
+    Out : Bool → Given (Result ℕ Refusal) (List ℕ)
+    Out c = pick c (given (Ok (length b)) (put place b l)) (given (Err NoPlace) l)
 
     go : (c : Bool) → leb place (length l) ≡ c → (d : Bool) → leb (length b) (length l - place) ≡ d → wrote_digest (Out (c && d)).answer ≡ true → after_digest place (Out (c && d)).lent (Out (c && d)).answer x ≡ DigestSent b
     go true p true q e = let g = leb-true place (length l) p in let h = leb-true (length b) (length l - place) q in ap DigestSent (part-put place b l (omega arith))
     go true p false q e = absurd (false≢true e)
     go false p d q e = absurd (false≢true e)
 
-    Whole : Bool → Given Written (List ℕ)
-    Whole y = pick y (write_bytes b place l) (given (written_as.Refused BadEdition) l)
+    Whole : Bool → Given (Result ℕ Refusal) (List ℕ)
+    Whole y = pick y (write_bytes b place l) (given (Err BadEdition) l)
 
     known : (y : Bool) → is_edition edition ≡ y → wrote_digest (Whole y).answer ≡ true → (is_edition edition ≡ true) × (after_digest place (Whole y).lent (Whole y).answer x ≡ DigestSent b)
     known true p e = (p, go (leb place (length l)) refl (leb (length b) (length l - place)) refl e)

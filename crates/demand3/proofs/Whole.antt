@@ -22,11 +22,12 @@ use Rattle.rules.specs.Digest.{Entries, NodeDigest, digest_bytes, digest_of, is_
 use Rattle.rules.specs.Node.{Node}
 use Rattle.rules.specs.Sizes.{numbers}
 use Rattle.rules.specs.Table.{Table, among, node_of}
-use Rattle.rules.specs.declared.Computed.{Computed}
+use Rattle.std.specs.Prelude.{Err, Ok, Result}
+use Rattle.rules.specs.declared.Refusal.{Refusal}
+use Rattle.rules.specs.declared.Sent.{Sent}
 use Rattle.rules.specs.declared.NodeAnswer.{NodeAnswer}
 use Rattle.rules.specs.declared.Refusal.TheVariants.{NoPlace}
 use Rattle.rules.specs.declared.NodeAnswer.TheVariants as node
-use Rattle.rules.specs.declared.Applied.TheVariants as applied
 use Rattle.demand3.proofs.Forms.{Comes, Made, comes, refuses, writes}
 use Rattle.demand3.proofs.Moments.{InOrder}
 use Rattle.demand3.proofs.OnTheWay.{digest-written}
@@ -80,7 +81,7 @@ module _ (ways : Ways) (is : List ℕ) (w : World) where
       Done : Exchange → Type 0
       Done y = (y ≡ DeltaSent (delta_bytes (ops_by excluded order mtu told w.publisher))) × Made excluded order mtu told w.publisher
 
-      go : (o : Given Computed (List ℕ)) → Comes edition excluded order mtu place b w.publisher l o → wrote_delta o.answer ≡ true → Done (after_delta place o.lent o.answer (DigestSent b))
+      go : (o : Given (Result Sent Refusal) (List ℕ)) → Comes edition excluded order mtu place b w.publisher l o → wrote_delta o.answer ≡ true → Done (after_delta place o.lent o.answer (DigestSent b))
       go o (refuses r) g = absurd (false≢true g)
       go o (writes ds rest e made there) g =
           let same : Entries ds rest ≡ Entries told [] = sym e ∙ read in
@@ -119,7 +120,7 @@ module _ (ways : Ways) (law : Lawful ways) (ops : List Op) (read : read_delta (d
       Done : ApplyOutcome → Type 0
       Done o = (End o.table ≡ ended) × (node.Room ∈ stream.answers → ⊥)
 
-      room : (c : Bool) → leb (length xs) (length l) ≡ c → (o : ApplyOutcome) → o ≡ pick {X = ApplyOutcome} c (record { answer = applied.Nodes (length xs); table = stream.table; list = put 0 (codes stream.answers) l }) (record { answer = applied.Refused NoPlace 0; table = w.follower; list = l }) → no_room o.answer o.list ≡ true → Done o
+      room : (c : Bool) → leb (length xs) (length l) ≡ c → (o : ApplyOutcome) → o ≡ pick {X = ApplyOutcome} c (record { answer = Ok (length xs); table = stream.table; list = put 0 (codes stream.answers) l }) (record { answer = (Err (record { why = NoPlace; at = 0 })); table = w.follower; list = l }) → no_room o.answer o.list ≡ true → Done o
       room true e o p g = (
         ap (λ (y : ApplyOutcome). End y.table) p,
         λ m.

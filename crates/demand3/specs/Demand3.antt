@@ -11,12 +11,10 @@ use Rattle.rules.specs.Digest.{write_digest}
 use Rattle.rules.specs.Apply.{Ways, apply}
 use Rattle.rules.specs.declared.Status.TheVariants.{Set}
 use Rattle.rules.specs.declared.NodeAnswer.TheVariants as node
-use Rattle.rules.specs.declared.Written.{Written}
-use Rattle.rules.specs.declared.Written.TheVariants as written
-use Rattle.rules.specs.declared.Computed.{Computed}
-use Rattle.rules.specs.declared.Computed.TheVariants as computed
-use Rattle.rules.specs.declared.Applied.{Applied}
-use Rattle.rules.specs.declared.Applied.TheVariants as applied
+use Rattle.std.specs.Prelude.{Err, Ok, Result}
+use Rattle.rules.specs.declared.DeltaFault.{DeltaFault}
+use Rattle.rules.specs.declared.Refusal.{Refusal}
+use Rattle.rules.specs.declared.Sent.{Sent}
 use Rattle.demand3.specs.Forms.{Order, InLine, AsPlanned, compute_by}
 use Rattle.demand3.specs.World.{World, Exchange, Idle, DigestSent, DeltaSent, Event, Writing, Beating, Offering, Removing, Digesting, Computing, Applying, Receiving, Sending, Arriving, possible, happen, after, start}
 
@@ -107,18 +105,18 @@ unlimited (Sending edition digest excluded order mtu place l) = true
 unlimited (Arriving k now l) = true
 
 -- Nothing refused, read off the answers: the three calls of an exchange give no number, and no node answers Room. A Reject is no refusal.
-abbrev pub wrote_digest : Written → Bool
-wrote_digest (written.Bytes n) = true
-wrote_digest (written.Refused r) = false
+abbrev pub wrote_digest : (Result ℕ Refusal) → Bool
+wrote_digest (Ok n) = true
+wrote_digest (Err r) = false
 
-abbrev pub wrote_delta : Computed → Bool
-wrote_delta (computed.Delta ops bytes) = true
-wrote_delta (computed.Refused r) = false
+abbrev pub wrote_delta : (Result Sent Refusal) → Bool
+wrote_delta (Ok s) = true
+wrote_delta (Err r) = false
 
 -- the first n places of the list have the nodes' answers
-abbrev pub no_room : (answer : Applied) (list : Bytes) → Bool
-no_room (applied.Nodes n) l = not (among (code_of node.Room) (take n l))
-no_room (applied.Refused r at) l = false
+abbrev pub no_room : (answer : (Result ℕ DeltaFault)) (list : Bytes) → Bool
+no_room (Ok n) l = not (among (code_of node.Room) (take n l))
+no_room (Err f) l = false
 
 abbrev pub is_computed : (edition : ℕ) (excluded : List ℕ) (order : Order) (mtu place : ℕ) (datagram : Bytes) (table : Table) (way : Exchange) → Bool
 is_computed edition excluded order mtu place l t Idle = false

@@ -11,7 +11,9 @@ use Rattle.rules.specs.Digest.{NodeDigest}
 use Rattle.rules.specs.Delta.{Op}
 use Rattle.rules.specs.Compute.{compute, delta_for}
 use Rattle.rules.specs.Lent.{lent_gc, lent_compute}
-use Rattle.rules.specs.declared.Computed.{Computed}
+use Rattle.std.specs.Prelude.{Result}
+use Rattle.rules.specs.declared.Refusal.{Refusal}
+use Rattle.rules.specs.declared.Sent.{Sent}
 use Rattle.grid.specs.Grid.{somebody}
 use Rattle.grid.specs.GridLayout.{decode_grid, valid_grid}
 use Rattle.grid.specs.LentGrid.{carefully_removed, fits_table, lent_careful}
@@ -51,7 +53,7 @@ pub data Order : Type 0 where
   AsPlanned : List ℕ → List ℕ → Order
 
 -- the call
-abbrev pub compute_by : (edition : ℕ) (excluded : List ℕ) (order : Order) (mtu place : ℕ) (digest : Bytes) (table : Table) (datagram : Bytes) → Given Computed Bytes
+abbrev pub compute_by : (edition : ℕ) (excluded : List ℕ) (order : Order) (mtu place : ℕ) (digest : Bytes) (table : Table) (datagram : Bytes) → Given (Result Sent Refusal) Bytes
 compute_by edition excluded (InLine ties) mtu place d t l = compute edition excluded ties mtu place d t l
 compute_by edition excluded (AsPlanned nodes counts) mtu place d t l = compute_plan edition excluded nodes counts mtu place d t l
 
@@ -61,6 +63,6 @@ ops_by excluded (InLine ties) mtu ds t = delta_for excluded ties mtu ds t
 ops_by excluded (AsPlanned nodes counts) mtu ds t = delta_by excluded nodes counts ds t
 
 -- the call on lent bytes
-abbrev pub lent_compute_by : (edition : ℕ) (excluded : List ℕ) (order : Order) (mtu place : ℕ) (digest datagram table : Bytes) → Given Computed Bytes
+abbrev pub lent_compute_by : (edition : ℕ) (excluded : List ℕ) (order : Order) (mtu place : ℕ) (digest datagram table : Bytes) → Given (Result Sent Refusal) Bytes
 lent_compute_by edition excluded (InLine ties) mtu place digest d l = lent_compute edition excluded ties mtu place digest d l
 lent_compute_by edition excluded (AsPlanned nodes counts) mtu place digest d l = lent_compute_plan edition excluded nodes counts mtu place digest d l

@@ -19,10 +19,8 @@ use Rattle.rules.specs.declared.Heartbeat.{Heartbeat}
 use Rattle.rules.specs.declared.Party.{Party}
 use Rattle.rules.specs.declared.Profile.{Profile}
 use Rattle.rules.specs.declared.Refusal.{Refusal}
-use Rattle.rules.specs.declared.Written.{Written}
-use Rattle.rules.specs.declared.Written.TheVariants as written
-use Rattle.rules.specs.declared.Computed.{Computed}
-use Rattle.rules.specs.declared.Computed.TheVariants as computed
+use Rattle.std.specs.Prelude.{Err, Ok, Result}
+use Rattle.rules.specs.declared.Sent.{Sent}
 use Rattle.delta_split.specs.Split.{cut_places}
 use Rattle.demand3.specs.Forms.{Order, Removal, compute_by, removed_by}
 
@@ -143,13 +141,13 @@ given_as p q k c o h = unless_refused (guard_in p q c k o) (given_in k c o h) h
 -- ---- what is on its way after a call; a refused one sends nothing, and what was on its way stays
 
 -- a digest of so many bytes from its place on
-abbrev pub after_digest : (place : ℕ) (datagram : Bytes) (answer : Written) (way : Exchange) → Exchange
-after_digest place l (written.Bytes n) x = DigestSent (part place n l)
-after_digest place l (written.Refused r) x = x
+abbrev pub after_digest : (place : ℕ) (datagram : Bytes) (answer : (Result ℕ Refusal)) (way : Exchange) → Exchange
+after_digest place l (Ok n) x = DigestSent (part place n l)
+after_digest place l (Err r) x = x
 
-abbrev pub after_delta : (place : ℕ) (datagram : Bytes) (answer : Computed) (way : Exchange) → Exchange
-after_delta place l (computed.Delta ops bytes) x = DeltaSent (part place bytes l)
-after_delta place l (computed.Refused r) x = x
+abbrev pub after_delta : (place : ℕ) (datagram : Bytes) (answer : (Result Sent Refusal)) (way : Exchange) → Exchange
+after_delta place l (Ok s) x = DeltaSent (part place s.bytes l)
+after_delta place l (Err r) x = x
 
 abbrev pub digested : (edition : ℕ) (excluded : List ℕ) (place : ℕ) (datagram : Bytes) (table : Table) (way : Exchange) → Exchange
 digested edition excluded place l t x = after_digest place (write_digest edition excluded place t l).lent (write_digest edition excluded place t l).answer x
@@ -162,9 +160,9 @@ computed_for edition excluded order mtu place l t (DigestSent d) =
 computed_for edition excluded order mtu place l t (DeltaSent b) = DeltaSent b
 
 -- what was ever computed, when a call has computed one more
-abbrev pub sent_after : (place : ℕ) (datagram : Bytes) (answer : Computed) (sent : List Bytes) → List Bytes
-sent_after place l (computed.Delta ops bytes) ss = part place bytes l ∷ ss
-sent_after place l (computed.Refused r) ss = ss
+abbrev pub sent_after : (place : ℕ) (datagram : Bytes) (answer : (Result Sent Refusal)) (sent : List Bytes) → List Bytes
+sent_after place l (Ok s) ss = part place s.bytes l ∷ ss
+sent_after place l (Err r) ss = ss
 
 abbrev pub sent_for : (edition : ℕ) (digest : Bytes) (excluded : List ℕ) (order : Order) (mtu place : ℕ) (datagram : Bytes) (table : Table) (sent : List Bytes) → List Bytes
 sent_for edition digest excluded order mtu place l t ss =

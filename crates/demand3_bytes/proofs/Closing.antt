@@ -20,8 +20,9 @@ use Rattle.rules.specs.declared.Status.TheVariants.{Set}
 use Rattle.demand3.specs.Forms.{InLine}
 use Rattle.demand3.specs.World.{Applying, Beating, Computing, Digesting, Event, Followers, Offering, Publishers, Side, fresh_table}
 use Rattle.demand3.specs.Demand3.{Answered, Asked, Holds, NotBegun, SameMax, Stage, all_quiet, ending, holdings, is_none, least_width, onward, quiet, unlimited}
+use Rattle.std.specs.Prelude.{Err, Ok, Result}
 use Rattle.exchange.specs.declared.Exchanged.{Exchanged}
-use Rattle.exchange.specs.declared.Exchanged.TheVariants as exchanged
+use Rattle.exchange_ask.specs.declared.Stopped.{Stopped}
 use Rattle.exchange.specs.Exchanging.{ExchangeLent, Lending, lent_exchange}
 use Rattle.demand3_bytes.specs.LentWorld.{LentWorld, lent_after, lent_calls, lent_happen, lent_start, table_in}
 use Rattle.demand3_bytes.specs.LentDemand3.{LentSound, lent_granted, lent_wholes}
@@ -98,15 +99,15 @@ record Ran (a : Act) (w : LentWorld) : Type 0 where
       → pick (is_whole a (hubs_of w)) (suc n) n ≤ lent_wholes st (events ++ fs) w
 
 -- whatever a call of the exchange answers
-quiet-run : (g : Lending) (a : Exchanged) → all_quiet (run_of g a) ≡ true
+quiet-run : (g : Lending) (a : (Result Exchanged Stopped)) → all_quiet (run_of g a) ≡ true
 unfolding all_quiet
-quiet-run g (exchanged.Done ops bytes nodes) = refl
-quiet-run g (exchanged.Refused s r) = refl
+quiet-run g (Ok x) = refl
+quiet-run g (Err s) = refl
 
 -- a granted one is all its events
-granted-run : (g : Lending) (a : Exchanged) (l : List ℕ) → granted_as a l ≡ true → run_of g a ≡ events_of g
-granted-run g (exchanged.Done ops bytes nodes) l e = refl
-granted-run g (exchanged.Refused s r) l e = absurd (false≢true e)
+granted-run : (g : Lending) (a : (Result Exchanged Stopped)) (l : List ℕ) → granted_as a l ≡ true → run_of g a ≡ events_of g
+granted-run g (Ok x) l e = refl
+granted-run g (Err s) l e = absurd (false≢true e)
 
 module _ (w : LentWorld) where
   ran-exchange : (g : Lending) → g.clock < numbers → Ran (Exchanges g) w
@@ -118,7 +119,7 @@ module _ (w : LentWorld) where
         counts = λ fs n st h. go (is_whole (Exchanges g) (hubs_of w)) refl fs n st h;
       }
     where
-      came-to : Given Exchanged ExchangeLent
+      came-to : Given (Result Exchanged Stopped) ExchangeLent
       came-to = lent_exchange g w.publisher w.follower
 
       run : List Event

@@ -19,10 +19,10 @@ use Rattle.rules.specs.Profile.{Kind, profile_obeys}
 use Rattle.rules.specs.Whole.{Whole}
 use Rattle.rules.specs.Lent.{TableAndList}
 use Rattle.rules.specs.declared.Status.TheVariants.{Set}
-use Rattle.rules.specs.declared.Computed.{Computed}
-use Rattle.rules.specs.declared.Written.{Written}
-use Rattle.rules.specs.declared.Written.TheVariants as written
-use Rattle.rules.specs.declared.Applied.{Applied}
+use Rattle.std.specs.Prelude.{Err, Result}
+use Rattle.rules.specs.declared.DeltaFault.{DeltaFault}
+use Rattle.rules.specs.declared.Refusal.{Refusal}
+use Rattle.rules.specs.declared.Sent.{Sent}
 use Rattle.rules.specs.declared.Refusal.TheVariants.{BadTable}
 use Rattle.rules.proofs.Obeys.{facts-table}
 use Rattle.profiles.proofs.Lawful.{kind-lawful}
@@ -45,14 +45,14 @@ module _ (pm fm : Kind) (w : World) (p : obeys w.publisher ≡ true) (f : obeys 
   granted-lent (Offering s i h) = refl
   granted-lent (Removing s removal) = refl
   granted-lent (Digesting edition excluded place d) =
-      ap (λ (o : Given Written (List ℕ)). wrote_digest o.answer)
-      (from-encoded fm w.follower f form.follower (given (written.Refused BadTable) d) (λ t. write_digest edition excluded place t d))
+      ap (λ (o : Given (Result ℕ Refusal) (List ℕ)). wrote_digest o.answer)
+      (from-encoded fm w.follower f form.follower (given (Err BadTable) d) (λ t. write_digest edition excluded place t d))
   granted-lent (Computing edition excluded order mtu place d) = go w.exchange
     where
       go : (x : Exchange) → lent_is_computed edition excluded order mtu place d (of_kind pm w.publisher) x ≡ is_computed edition excluded order mtu place d w.publisher x
       go Idle = refl
       go (DigestSent b) =
-          ap (λ (o : Given Computed (List ℕ)). wrote_delta o.answer)
+          ap (λ (o : Given (Result Sent Refusal) (List ℕ)). wrote_delta o.answer)
           (computed-lent pm fm w p f form edition b excluded order mtu place d)
       go (DeltaSent b) = refl
   granted-lent (Applying now answers) = ap (λ (b : Bool). ltb now numbers && b) (go w.exchange)
@@ -60,7 +60,7 @@ module _ (pm fm : Kind) (w : World) (p : obeys w.publisher ≡ true) (f : obeys 
       go : (x : Exchange) → lent_is_applied now answers (of_kind fm w.follower) x ≡ is_applied (ways pm fm) now answers w.follower x
       go Idle = refl
       go (DigestSent b) = refl
-      go (DeltaSent b) = ap (λ (o : Given Applied TableAndList). no_room o.answer o.lent.list) (apply-encoded fm w.follower f form.follower b now answers)
+      go (DeltaSent b) = ap (λ (o : Given (Result ℕ DeltaFault) TableAndList). no_room o.answer o.lent.list) (apply-encoded fm w.follower f form.follower b now answers)
   granted-lent (Receiving cuts now answers) = refl
   granted-lent (Sending edition digest excluded order mtu place d) = refl
   granted-lent (Arriving k now answers) = refl

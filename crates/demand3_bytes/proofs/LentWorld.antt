@@ -19,14 +19,10 @@ use Rattle.rules.specs.Apply.{Ways, apply, ways_in}
 use Rattle.rules.specs.Profile.{Kind, guard_in, profile_obeys, recs_obey}
 use Rattle.rules.specs.Whole.{Whole, decode_whole, encode_whole, obeys_whole}
 use Rattle.rules.specs.Lent.{TableAndList, from_table, lent_apply, on_table, on_whole, stored_apply, stored_in}
-use Rattle.rules.specs.declared.Answer.{Answer}
-use Rattle.rules.specs.declared.Answer.TheVariants as plain
-use Rattle.rules.specs.declared.Offered.TheVariants as offered
-use Rattle.rules.specs.declared.Written.{Written}
-use Rattle.rules.specs.declared.Written.TheVariants as written
-use Rattle.rules.specs.declared.Computed.{Computed}
-use Rattle.rules.specs.declared.Computed.TheVariants as computed
-use Rattle.rules.specs.declared.Applied.{Applied}
+use Rattle.std.specs.Prelude.{Err, Result}
+use Rattle.rules.specs.declared.DeltaFault.{DeltaFault}
+use Rattle.rules.specs.declared.Sent.{Sent}
+use Rattle.rules.specs.Results.{done}
 use Rattle.rules.specs.declared.Profile.{Profile}
 use Rattle.rules.specs.declared.Party.{Party}
 use Rattle.rules.specs.declared.Refusal.{Refusal}
@@ -132,20 +128,20 @@ module _ (pk fk : Kind) where
     pub computed-lent : (edition : ℕ) (digest excluded : List ℕ) (order : Order) (mtu place : ℕ) (d : List ℕ) → lent_compute_by edition excluded order mtu place digest d (of_kind pk w.publisher) ≡ compute_by edition excluded order mtu place digest w.publisher d
     computed-lent edition digest excluded order mtu place d =
         lent-computing edition excluded order mtu place digest d (of_kind pk w.publisher)
-        ∙ from-encoded pk w.publisher p form.publisher (given (computed.Refused BadTable) d) (λ t. compute_by edition excluded order mtu place digest t d)
+        ∙ from-encoded pk w.publisher p form.publisher (given (Err BadTable) d) (λ t. compute_by edition excluded order mtu place digest t d)
 
     removed-lent : (s : Side) (removal : Removal) → on_lent s (lent_removed_by removal) (lent w) ≡ lent (on_side s (removed_by removal) w)
     removed-lent Publishers removal =
         ap (λ (l : List ℕ). on_lent Publishers (λ m. l) (lent w)) (lent-removal removal (of_kind pk w.publisher))
-        ∙ on-side Publishers (plain.Refused BadTable) (λ t. gives plain.Done (removed_by removal t))
+        ∙ on-side Publishers (Err BadTable) (λ t. gives done (removed_by removal t))
     removed-lent Followers removal =
         ap (λ (l : List ℕ). on_lent Followers (λ m. l) (lent w)) (lent-removal removal (of_kind fk w.follower))
-        ∙ on-side Followers (plain.Refused BadTable) (λ t. gives plain.Done (removed_by removal t))
+        ∙ on-side Followers (Err BadTable) (λ t. gives done (removed_by removal t))
 
     applied-lent : (now : ℕ) (answers : List ℕ) (x : Exchange) → lent_applied now answers x (of_kind fk w.follower) ≡ of_kind fk (applied_to ways now answers x w.follower)
     applied-lent now answers Idle = refl
     applied-lent now answers (DigestSent b) = refl
-    applied-lent now answers (DeltaSent b) = ap (λ (o : Given Applied TableAndList). o.lent.table) (apply-encoded fk w.follower f form.follower b now answers)
+    applied-lent now answers (DeltaSent b) = ap (λ (o : Given (Result ℕ DeltaFault) TableAndList). o.lent.table) (apply-encoded fk w.follower f form.follower b now answers)
 
     -- ---- a write
 
@@ -164,7 +160,7 @@ module _ (pk fk : Kind) where
       abbrev bytes_by : Whole → LentWorld
       bytes_by u =
           record {
-            publisher = (on_table (plain.Refused BadTable) (call_as u.kind.profile who c i k) (of_kind pk w.publisher)).lent;
+            publisher = (on_table (Err BadTable) (call_as u.kind.profile who c i k) (of_kind pk w.publisher)).lent;
             follower = of_kind fk w.follower;
             given = λ j. pick (eqb j i) (given_as u.kind.profile who k c (node_of i u.table) (w.given j)) (w.given j);
             exchange = w.exchange;
@@ -175,8 +171,8 @@ module _ (pk fk : Kind) where
       unfolding call_as
       writing-lent =
           ap bytes_by (stands pk w.publisher p form.publisher)
-          ∙ ap (λ (o : Given Answer (List ℕ)). record { publisher = o.lent; follower = of_kind fk w.follower; given = (guarded (guard_on (Writing i k who c) w)).given; exchange = w.exchange; sent = w.sent })
-          (on-encoded pk w.publisher p form.publisher (plain.Refused BadTable) (call_as pk.profile who c i k))
+          ∙ ap (λ (o : Given (Result (Unit {0}) Refusal) (List ℕ)). record { publisher = o.lent; follower = of_kind fk w.follower; given = (guarded (guard_on (Writing i k who c) w)).given; exchange = w.exchange; sent = w.sent })
+          (on-encoded pk w.publisher p form.publisher (Err BadTable) (call_as pk.profile who c i k))
 
       refused-writing : (r : Refusal) → guarded (some r) ≡ w
       refused-writing r =
@@ -197,24 +193,24 @@ module _ (pk fk : Kind) where
 
     calls-lent : (e : Event) → guard_on e w ≡ none → lent_calls e (lent w) ≡ lent (calls ways e w)
     calls-lent (Writing i k who c) g = writing-lent i k who c ∙ ap (λ (r : Option Refusal). lent (guarded i k who c r)) g
-    calls-lent (Beating s i) g = on-side s (plain.Refused BadTable) (local_beat i)
-    calls-lent (Offering s i h) g = on-side s (offered.Refused BadTable) (offer i h)
+    calls-lent (Beating s i) g = on-side s (Err BadTable) (local_beat i)
+    calls-lent (Offering s i h) g = on-side s (Err BadTable) (offer i h)
     calls-lent (Removing s removal) g = removed-lent s removal
     calls-lent (Digesting edition excluded place d) g =
-        ap (λ (o : Given Written (List ℕ)). on_way (after_digest place o.lent o.answer w.exchange) w.sent (lent w))
-        (from-encoded fk w.follower f form.follower (given (written.Refused BadTable) d) (λ t. write_digest edition excluded place t d))
+        ap (λ (o : Given (Result ℕ Refusal) (List ℕ)). on_way (after_digest place o.lent o.answer w.exchange) w.sent (lent w))
+        (from-encoded fk w.follower f form.follower (given (Err BadTable) d) (λ t. write_digest edition excluded place t d))
     calls-lent (Computing edition excluded order mtu place d) g = go w.exchange
       where
         go : (x : Exchange) → on_way (lent_computed edition excluded order mtu place d (of_kind pk w.publisher) x) (lent_sent_on edition excluded order mtu place d (of_kind pk w.publisher) x w.sent) (lent w) ≡ lent (on_exchange (computed_for edition excluded order mtu place d w.publisher x) (on_sent (sent_on edition excluded order mtu place d w.publisher x w.sent) w))
         go Idle = refl
         go (DigestSent b) =
-            ap (λ (o : Given Computed (List ℕ)). on_way (after_delta place o.lent o.answer (DigestSent b)) (sent_after place o.lent o.answer w.sent) (lent w))
+            ap (λ (o : Given (Result Sent Refusal) (List ℕ)). on_way (after_delta place o.lent o.answer (DigestSent b)) (sent_after place o.lent o.answer w.sent) (lent w))
             (computed-lent edition b excluded order mtu place d)
         go (DeltaSent b) = refl
     calls-lent (Applying now answers) g = ap (λ (l : List ℕ). on_lent Followers (λ m. l) (lent w)) (applied-lent now answers w.exchange)
     calls-lent (Receiving cuts now answers) g = ap (λ (l : List ℕ). on_lent Followers (λ m. l) (lent w)) (applied-lent now answers (cut_by cuts w.exchange))
     calls-lent (Sending edition digest excluded order mtu place d) g =
-        ap (λ (o : Given Computed (List ℕ)). on_way w.exchange (sent_after place o.lent o.answer w.sent) (lent w)) (computed-lent edition digest excluded order mtu place d)
+        ap (λ (o : Given (Result Sent Refusal) (List ℕ)). on_way w.exchange (sent_after place o.lent o.answer w.sent) (lent w)) (computed-lent edition digest excluded order mtu place d)
     calls-lent (Arriving k now answers) g = ap (λ (l : List ℕ). on_lent Followers (λ m. l) (lent w)) (applied-lent now answers (arrives k w.sent))
 
     -- ---- and keeps in form

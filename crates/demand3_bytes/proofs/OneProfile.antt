@@ -16,8 +16,11 @@ use Rattle.rules.specs.Node.{Node}
 use Rattle.rules.specs.Profile.{Kind, odd_number, profile_obeys, table_formed}
 use Rattle.rules.specs.Table.{Table, obeys}
 use Rattle.rules.specs.Whole.{Whole, decode_whole, encode_whole, obeys_whole, valid_whole}
-use Rattle.rules.specs.declared.Applied.{Applied}
-use Rattle.rules.specs.declared.Applied.TheVariants as applied
+use Rattle.std.specs.Prelude.{Err, Ok, Result}
+use Rattle.exchange_ask.specs.declared.Stopped.{Stopped}
+use Rattle.exchange.specs.declared.Exchanged.{Exchanged}
+use Rattle.rules.specs.declared.DeltaFault.{DeltaFault}
+use Rattle.rules.specs.Results.{done}
 use Rattle.rules.specs.declared.DeltaStatus.{DeltaStatus}
 use Rattle.rules.specs.declared.DeltaStatus.TheVariants.{Apply, ApplyAfterReset, Fenced, Reject}
 use Rattle.rules.specs.declared.Profile.{Profile}
@@ -25,18 +28,14 @@ use Rattle.rules.specs.declared.Refusal.{Refusal}
 use Rattle.rules.specs.declared.Refusal.TheVariants.{BadEdition, BadTable, NoPlace}
 use Rattle.rules.proofs.Formed.{table-formed}
 use Rattle.rules.proofs.Obeys.{facts-table}
+use Rattle.rules.proofs.Results.{err-is}
 use Rattle.profiles.proofs.Reading.{delta-plain}
 use Rattle.table.proofs.Wholes.{decode-encode-whole, valid-encode-whole}
 use Rattle.compute.specs.Asking.{asked_of}
-use Rattle.compute.specs.declared.Asked.{Asked}
-use Rattle.compute.specs.declared.Asked.TheVariants as asked
 use Rattle.exchange_ask.specs.Asking.{Rooms, forms_fit, ready_for, ready_on, rooms_for, taking_for, unless_refused}
-use Rattle.exchange_ask.specs.declared.Ready.{Ready}
-use Rattle.exchange_ask.specs.declared.Ready.TheVariants as ready
 use Rattle.exchange_ask.specs.declared.Step.{Step}
 use Rattle.exchange_ask.specs.declared.Step.TheVariants.{Applying, Delta, Digest}
 use Rattle.exchange.specs.Exchanging.{Lending, after_asking, lent_exchange, rooms_of}
-use Rattle.exchange.specs.declared.Exchanged.TheVariants as exchanged
 use Rattle.exchange.proofs.Refusing.{is-ready, ready-done}
 use Rattle.demand3.proofs.Formed.{only-places}
 use Rattle.demand3.proofs.Parted.{IsRead, arrived-so}
@@ -77,47 +76,47 @@ module _ (k : Kind) (b : List ℕ) (read : IsRead k.profile b) (now : ℕ) (t : 
 apply-as : (w : Whole) → obeys_whole w ≡ true → (its : Ways) (b : List ℕ) (now : ℕ) (l : List ℕ) → lent_apply_as its b now l (encode_whole w) ≡ stored_apply w (apply its b now w.table l)
 unfolding lent_apply_as
 apply-as w o its b now l =
-    ap (λ (c : Bool). pick c (stored_apply (decode_whole (encode_whole w)) (apply its b now (decode_whole (encode_whole w)).table l)) (given (applied.Refused BadTable 0) (both (encode_whole w) l)))
+    ap (λ (c : Bool). pick c (stored_apply (decode_whole (encode_whole w)) (apply its b now (decode_whole (encode_whole w)).table l)) (given (Err (record { why = BadTable; at = 0 })) (both (encode_whole w) l)))
     (valid-encode-whole w o)
     ∙ ap (λ (u : Whole). stored_apply u (apply its b now u.table l)) (decode-encode-whole w o)
 
 -- ---- an exchange in one call, of a publisher whose records are in the follower's form
 
 module _ (edition : ℕ) (unasked : List ℕ) (k : Rooms) (publisher follower : List ℕ) (fit : forms_fit publisher follower ≡ true) where
-  asks-places : (why : Refusal) → ready_for edition unasked k publisher follower ≡ ready.No Applying why → why ≡ NoPlace
+  asks-places : (why : Refusal) → ready_for edition unasked k publisher follower ≡ (Err (record { step = Applying; why = why })) → why ≡ NoPlace
   unfolding ready_for ready_on rooms_for taking_for
   asks-places why =
       go (valid_whole follower) (valid_whole publisher) (is_edition edition) (leb (length (digest_bytes edition (digest_of unasked (decode_whole follower).table))) k.digest)
       (asked_of k.mtu 0 k.delta k.ties (length (decode_whole publisher).table)) (forms_fit publisher follower) fit (leb (length (decode_whole publisher).table) k.answers)
     where
-      go : (u v e d : Bool) (n : Asked) (x : Bool) → x ≡ true → (p : Bool)
-          → pick u (pick v (pick e (pick d (unless_refused n (pick x (pick p ready.Yes (ready.No Applying NoPlace)) (ready.No Applying (odd_number (decode_whole follower).kind.profile)))) (ready.No Digest NoPlace)) (ready.No Digest BadEdition)) (ready.No Delta BadTable)) (ready.No Digest BadTable) ≡ ready.No Applying why
+      go : (u v e d : Bool) (n : (Result (Unit {0}) Refusal)) (x : Bool) → x ≡ true → (p : Bool)
+          → pick u (pick v (pick e (pick d (unless_refused n (pick x (pick p done (Err (record { step = Applying; why = NoPlace }))) (Err (record { step = Applying; why = (odd_number (decode_whole follower).kind.profile) })))) (Err (record { step = Digest; why = NoPlace }))) (Err (record { step = Digest; why = BadEdition }))) (Err (record { step = Delta; why = BadTable }))) (Err (record { step = Digest; why = BadTable })) ≡ (Err (record { step = Applying; why = why }))
           → why ≡ NoPlace
-      go true true true true asked.Good true f true q = let z : ◌≡◌ {A = ℕ} 0 1 = cc in absurd (omega arith)
-      go true true true true asked.Good true f false q = cc
-      go true true true true asked.Good false f p q = absurd (false≢true f)
-      go true true true true (asked.Refused r) x f p q = let z : ◌≡◌ {A = ℕ} 0 1 = cc in absurd (omega arith)
-      go true true true false n x f p q = let z : ◌≡◌ {A = ℕ} 0 1 = cc in absurd (omega arith)
-      go true true false d n x f p q = let z : ◌≡◌ {A = ℕ} 0 1 = cc in absurd (omega arith)
-      go true false e d n x f p q = let z : ◌≡◌ {A = ℕ} 0 1 = cc in absurd (omega arith)
-      go false v e d n x f p q = let z : ◌≡◌ {A = ℕ} 0 1 = cc in absurd (omega arith)
+      go true true true true (Ok _) true f true q = let z : ◌≡◌ {A = ℕ} 0 1 = cc in absurd (omega arith)
+      go true true true true (Ok _) true f false q = sym (ap (λ (y : Stopped). y.why) (err-is _ _ q))
+      go true true true true (Ok _) false f p q = absurd (false≢true f)
+      go true true true true (Err r) x f p q = let e = ap (λ (y : Stopped). y.step) (err-is _ _ q) in let z : ◌≡◌ {A = ℕ} 0 1 = cc in absurd (omega arith)
+      go true true true false n x f p q = let e = ap (λ (y : Stopped). y.step) (err-is _ _ q) in let z : ◌≡◌ {A = ℕ} 0 1 = cc in absurd (omega arith)
+      go true true false d n x f p q = let e = ap (λ (y : Stopped). y.step) (err-is _ _ q) in let z : ◌≡◌ {A = ℕ} 0 1 = cc in absurd (omega arith)
+      go true false e d n x f p q = let e = ap (λ (y : Stopped). y.step) (err-is _ _ q) in let z : ◌≡◌ {A = ℕ} 0 1 = cc in absurd (omega arith)
+      go false v e d n x f p q = let e = ap (λ (y : Stopped). y.step) (err-is _ _ q) in let z : ◌≡◌ {A = ℕ} 0 1 = cc in absurd (omega arith)
 
-exchange-asks : (g : Lending) (publisher follower : List ℕ) → forms_fit publisher follower ≡ true → (why : Refusal) → (lent_exchange g publisher follower).answer ≡ exchanged.Refused Applying why → why ≡ NoPlace
+exchange-asks : (g : Lending) (publisher follower : List ℕ) → forms_fit publisher follower ≡ true → (why : Refusal) → (lent_exchange g publisher follower).answer ≡ (Err (record { step = Applying; why = why })) → why ≡ NoPlace
 unfolding lent_exchange
 exchange-asks g publisher follower fit why e = go (ready_for g.edition g.unasked (rooms_of g) publisher follower) refl e
   where
-    same : (s : Step) (r : Refusal) → exchanged.Refused s r ≡ exchanged.Refused Applying why → (s ≡ Applying) × (r ≡ why)
-    same s r q = (cc, cc)
+    same : (s : Step) (r : Refusal) → ◌≡◌ {A = Result Exchanged Stopped} (Err (record { step = s; why = r })) (Err (record { step = Applying; why = why })) → (s ≡ Applying) × (r ≡ why)
+    same s r q = let x = err-is _ _ q in (ap (λ (y : Stopped). y.step) x, ap (λ (y : Stopped). y.why) x)
 
-    go : (a : Ready) → ready_for g.edition g.unasked (rooms_of g) publisher follower ≡ a → (after_asking g publisher follower a).answer ≡ exchanged.Refused Applying why → why ≡ NoPlace
-    go ready.Yes q r = let done = sym (ready-done g publisher follower (is-ready g publisher follower q)) ∙ r in let z : ◌≡◌ {A = ℕ} 0 1 = cc in absurd (omega arith)
-    go (ready.No s r) q t = let x = same s r t in asks-places g.edition g.unasked (rooms_of g) publisher follower fit why (q ∙ ap (λ (y : Step). ready.No y r) x.0 ∙ ap (ready.No Applying) x.1)
+    go : (a : (Result (Unit {0}) Stopped)) → ready_for g.edition g.unasked (rooms_of g) publisher follower ≡ a → (after_asking g publisher follower a).answer ≡ (Err (record { step = Applying; why = why })) → why ≡ NoPlace
+    go (Ok _) q r = let done = sym (ready-done g publisher follower (is-ready g publisher follower q)) ∙ r in let z : ◌≡◌ {A = ℕ} 0 1 = cc in absurd (omega arith)
+    go (Err ss) q t = let x = same ss.step ss.why t in asks-places g.edition g.unasked (rooms_of g) publisher follower fit why (q ∙ ap (λ (y : Step). (Err (record { step = y; why = ss.why }))) x.0 ∙ ap (λ (r : Refusal). Err (record { step = Applying; why = r })) x.1)
 
 -- ---- a table of the publisher's profile
 
 module _ (k : Kind) (t : Table) (o : obeys t ≡ true) (f : profile_obeys k.profile t ≡ true) (b : List ℕ) (read : IsRead k.profile b) (now : ℕ) (answers : List ℕ) where
-  bytes-places : (why : Refusal) (at : ℕ) → (lent_apply b now answers (of_kind k t)).answer ≡ applied.Refused why at → why ≡ NoPlace
-  bytes-places why at e = only-places k b read now t answers why at (ap (λ (g : Given Applied TableAndList). g.answer) (sym (apply-encoded k t o f b now answers)) ∙ e)
+  bytes-places : (why : Refusal) (at : ℕ) → (lent_apply b now answers (of_kind k t)).answer ≡ (Err (record { why = why; at = at })) → why ≡ NoPlace
+  bytes-places why at e = only-places k b read now t answers why at (ap (λ (g : Given (Result ℕ DeltaFault) TableAndList). g.answer) (sym (apply-encoded k t o f b now answers)) ∙ e)
 
   bytes-free : lent_apply b now answers (of_kind k t) ≡ lent_apply_as (reading_all k) b now answers (of_kind k t)
   bytes-free =
@@ -159,11 +158,11 @@ module _ (pk fk : Kind) (is : List ℕ) (ok : obeys (fresh_table is) ≡ true) w
       record {
         only-places =
             λ alike es k b.
-            here alike es (λ v. arrives k v.sent ≡ DeltaSent b → (now : ℕ) (answers : List ℕ) (why : Refusal) (at : ℕ) → (lent_apply b now answers v.follower).answer ≡ applied.Refused why at → why ≡ NoPlace)
+            here alike es (λ v. arrives k v.sent ≡ DeltaSent b → (now : ℕ) (answers : List ℕ) (why : Refusal) (at : ℕ) → (lent_apply b now answers v.follower).answer ≡ (Err (record { why = why; at = at })) → why ≡ NoPlace)
             (λ e now answers. bytes-places fk (w alike es).follower (obeyed alike es) (formed alike es) b (reads alike es k b e) now answers);
         as-free =
             λ alike es k b.
             here alike es (λ v. arrives k v.sent ≡ DeltaSent b → (now : ℕ) (answers : List ℕ) → lent_apply b now answers v.follower ≡ lent_apply_as (reading_all fk) b now answers v.follower)
             (λ e now answers. bytes-free fk (w alike es).follower (obeyed alike es) (formed alike es) b (reads alike es k b e) now answers);
-        exchange_places = λ alike es g. here alike es (λ v. (why : Refusal) → (lent_exchange g v.publisher v.follower).answer ≡ exchanged.Refused Applying why → why ≡ NoPlace) (exchange-asks g _ _ (fits alike es));
+        exchange_places = λ alike es g. here alike es (λ v. (why : Refusal) → (lent_exchange g v.publisher v.follower).answer ≡ (Err (record { step = Applying; why = why })) → why ≡ NoPlace) (exchange-asks g _ _ (fits alike es));
       }

@@ -16,7 +16,9 @@ use Rattle.rules.specs.Node.{Node}
 use Rattle.rules.specs.Sizes.{max_delta}
 use Rattle.rules.specs.Table.{node_of, obeys}
 use Rattle.rules.specs.Whole.{obeys_whole, valid_whole}
-use Rattle.rules.specs.declared.Computed.{Computed}
+use Rattle.std.specs.Prelude.{Result}
+use Rattle.rules.specs.declared.Refusal.{Refusal}
+use Rattle.rules.specs.declared.Sent.{Sent}
 use Rattle.rules.specs.Profile.{Kind}
 use Rattle.plan.proofs.Comes.{plan-written}
 use Rattle.plan.specs.Plan.{compute_plan, lent_compute_plan}
@@ -60,4 +62,4 @@ lent-planner-can pm fm is ok es i a b x y other edition mtu place d known wide m
     valid-plan edition [] (i ∷ []) (can.0 ∷ []) mtu place (digest_bytes edition (digest_of [] (table_in w.follower))) d w.publisher s.publisher_valid
     ∙ plan-written edition [] (i ∷ []) (can.0 ∷ []) mtu place (digest_bytes edition (digest_of [] (table_in w.follower))) (table_in w.publisher) d known (omega arith) most room
     (digest_of [] (table_in w.follower)) [] (read-written edition known [] (table_in w.follower) f) can.1 in
-    (can.0, ap (λ (o : Given Computed (List ℕ)). wrote_delta o.answer) wrote)
+    (can.0, ap (λ (o : Given (Result Sent Refusal) (List ℕ)). wrote_delta o.answer) wrote)

@@ -10,20 +10,17 @@ use Rattle.fields.specs.Parts.{part}
 use Rattle.rules.specs.Given.{Given}
 use Rattle.rules.specs.Sizes.{numbers}
 use Rattle.rules.specs.Lent.{lent_apply, lent_compute, lent_digest}
-use Rattle.rules.specs.declared.Written.{Written}
-use Rattle.rules.specs.declared.Written.TheVariants as written
-use Rattle.rules.specs.declared.Computed.{Computed}
-use Rattle.rules.specs.declared.Computed.TheVariants as computed
-use Rattle.rules.specs.declared.Applied.{Applied}
-use Rattle.rules.specs.declared.Applied.TheVariants as applied
+use Rattle.std.specs.Prelude.{Err, Ok, Result}
+use Rattle.exchange.specs.declared.Exchanged.{Exchanged}
+use Rattle.exchange_ask.specs.declared.Stopped.{Stopped}
+use Rattle.rules.specs.declared.DeltaFault.{DeltaFault}
+use Rattle.rules.specs.declared.Refusal.{Refusal}
+use Rattle.rules.specs.declared.Sent.{Sent}
 use Rattle.demand3.specs.Forms.{InLine}
 use Rattle.demand3.specs.World.{Applying, Computing, DeltaSent, DigestSent, Digesting, Event, Exchange, after_delta, after_digest, sent_after}
 use Rattle.demand3.specs.Demand3.{no_room, wrote_delta, wrote_digest}
 use Rattle.exchange.specs.Exchanging.{ExchangeLent, Lending, after_asking, after_computing, after_digesting, exchanged_as, lent_answer, lent_exchange, rooms_of, three_calls, with_digest}
 use Rattle.exchange_ask.specs.Asking.{ready_for}
-use Rattle.exchange.specs.declared.Exchanged.{Exchanged}
-use Rattle.exchange_ask.specs.declared.Ready.{Ready}
-use Rattle.exchange_ask.specs.declared.Ready.TheVariants as ready
 use Rattle.exchange.proofs.Refusing.{digest-told, is-ready, ready-done}
 use Rattle.demand3_bytes.specs.LentWorld.{LentWorld, lent_after, lent_calls, lent_happen, on_way}
 use Rattle.demand3_bytes.specs.LentDemand3.{lent_granted}
@@ -39,10 +36,10 @@ and-true true = refl
 and-true false = refl
 
 module _ (g : Lending) (w : LentWorld) (clock : g.clock < numbers) where
-  abbrev told : Given Written (List ℕ)
+  abbrev told : Given (Result ℕ Refusal) (List ℕ)
   told = lent_digest g.edition g.unasked 0 g.digest w.follower
 
-  abbrev made : List ℕ → Given Computed (List ℕ)
+  abbrev made : List ℕ → Given (Result Sent Refusal) (List ℕ)
   made b = lent_compute g.edition g.unsent g.ties g.mtu 0 b g.delta w.publisher
 
   abbrev asking : Event
@@ -56,13 +53,13 @@ module _ (g : Lending) (w : LentWorld) (clock : g.clock < numbers) where
 
   -- ---- the three events
 
-  first : (n : ℕ) → told.answer ≡ written.Bytes n → lent_happen asking w ≡ on_way (DigestSent (part 0 n told.lent)) w.sent w
+  first : (n : ℕ) → told.answer ≡ Ok n → lent_happen asking w ≡ on_way (DigestSent (part 0 n told.lent)) w.sent w
   unfolding lent_happen
-  first n e = ap (λ (a : Written). on_way (after_digest 0 told.lent a w.exchange) w.sent w) e
+  first n e = ap (λ (a : (Result ℕ Refusal)). on_way (after_digest 0 told.lent a w.exchange) w.sent w) e
 
-  second : (b : List ℕ) (a : Computed) → (made b).answer ≡ a → lent_happen answering (on_way (DigestSent b) w.sent w) ≡ on_way (after_delta 0 (made b).lent a (DigestSent b)) (sent_after 0 (made b).lent a w.sent) w
+  second : (b : List ℕ) (a : (Result Sent Refusal)) → (made b).answer ≡ a → lent_happen answering (on_way (DigestSent b) w.sent w) ≡ on_way (after_delta 0 (made b).lent a (DigestSent b)) (sent_after 0 (made b).lent a w.sent) w
   unfolding lent_happen
-  second b a e = ap (λ (x : Computed). on_way (after_delta 0 (made b).lent x (DigestSent b)) (sent_after 0 (made b).lent x w.sent) w) e
+  second b a e = ap (λ (x : (Result Sent Refusal)). on_way (after_delta 0 (made b).lent x (DigestSent b)) (sent_after 0 (made b).lent x w.sent) w) e
 
   third : (b : List ℕ) (ss : List (List ℕ)) → lent_happen taking-in (on_way (DeltaSent b) ss w) ≡ exchanged_to (lent_apply b g.clock g.answers w.follower).lent.table (DeltaSent b) ss w
   unfolding lent_happen
@@ -81,21 +78,21 @@ module _ (g : Lending) (w : LentWorld) (clock : g.clock < numbers) where
   -- ---- the run
 
   -- The three calls are the three events, once there is a digest.
-  three-run : (n : ℕ) → told.answer ≡ written.Bytes n → (x : Exchange) × (ss : List (List ℕ)) × (lent_after (events_of g) w ≡ exchanged_to (three_calls g w.publisher w.follower).lent.follower x ss w)
+  three-run : (n : ℕ) → told.answer ≡ Ok n → (x : Exchange) × (ss : List (List ℕ)) × (lent_after (events_of g) w ≡ exchanged_to (three_calls g w.publisher w.follower).lent.follower x ss w)
   unfolding three_calls lent_answer
-  three-run n e = subst (λ (a : Written). Run (after_digesting g w.publisher w.follower told.lent a)) (sym e) (answered (made b).answer refl)
+  three-run n e = subst (λ (a : (Result ℕ Refusal)). Run (after_digesting g w.publisher w.follower told.lent a)) (sym e) (answered (made b).answer refl)
     where
       b : List ℕ
       b = part 0 n told.lent
 
-      Run : Given Exchanged ExchangeLent → Type 0
+      Run : Given (Result Exchanged Stopped) ExchangeLent → Type 0
       Run o = (x : Exchange) × (ss : List (List ℕ)) × (lent_after (events_of g) w ≡ exchanged_to o.lent.follower x ss w)
 
-      answered : (a : Computed) → (made b).answer ≡ a → Run (with_digest told.lent (after_computing g.clock g.answers w.follower (made b).lent a))
-      answered (computed.Delta ops bytes) q = let d = part 0 bytes (made b).lent in (DeltaSent d, d ∷ w.sent, three b _ _ (first n e) (second b _ q) (third d (d ∷ w.sent)))
-      answered (computed.Refused r) q = (DigestSent b, w.sent, three b _ _ (first n e) (second b _ q) (third-none b))
+      answered : (a : (Result Sent Refusal)) → (made b).answer ≡ a → Run (with_digest told.lent (after_computing g.clock g.answers w.follower (made b).lent a))
+      answered (Ok s) q = let d = part 0 s.bytes (made b).lent in (DeltaSent d, d ∷ w.sent, three b _ _ (first n e) (second b _ q) (third d (d ∷ w.sent)))
+      answered (Err r) q = (DigestSent b, w.sent, three b _ _ (first n e) (second b _ q) (third-none b))
 
-  abbrev is-asked : Ready
+  abbrev is-asked : (Result (Unit {0}) Stopped)
   is-asked = ready_for g.edition g.unasked (rooms_of g) w.publisher w.follower
 
   -- Whatever the call answers, it is this run.
@@ -103,12 +100,12 @@ module _ (g : Lending) (w : LentWorld) (clock : g.clock < numbers) where
   unfolding lent_exchange lent_after
   exchange-run = go is-asked refl
     where
-      go : (a : Ready) → is-asked ≡ a → IsRun g w (after_asking g w.publisher w.follower a)
-      go ready.Yes e =
+      go : (a : (Result (Unit {0}) Stopped)) → is-asked ≡ a → IsRun g w (after_asking g w.publisher w.follower a)
+      go (Ok _) e =
           let r = is-ready g w.publisher w.follower e in
-          let run = three-run _ (ap (λ (o : Given Written (List ℕ)). o.answer) (digest-told g w.publisher w.follower r)) in
-          (run.0, run.1, ap (λ (a : Exchanged). lent_after (run_of g a) w) (ready-done g w.publisher w.follower r) ∙ run.2)
-      go (ready.No s r) e = (w.exchange, w.sent, refl)
+          let run = three-run _ (ap (λ (o : Given (Result ℕ Refusal) (List ℕ)). o.answer) (digest-told g w.publisher w.follower r)) in
+          (run.0, run.1, ap (λ (a : (Result Exchanged Stopped)). lent_after (run_of g a) w) (ready-done g w.publisher w.follower r) ∙ run.2)
+      go (Err s) e = (w.exchange, w.sent, refl)
 
   -- ---- nothing refused
 
@@ -127,32 +124,32 @@ module _ (g : Lending) (w : LentWorld) (clock : g.clock < numbers) where
       clock-is : ltb g.clock numbers ≡ true
       clock-is = lt-ltb g.clock numbers clock
 
-      taken : (ops bytes : ℕ) (a : Applied) (l : List ℕ) → (no_room a l && true) ≡ granted_as (exchanged_as ops bytes a) l
-      taken ops bytes (applied.Nodes n) l = and-true _
-      taken ops bytes (applied.Refused r at) l = refl
+      taken : (ops bytes : ℕ) (a : (Result ℕ DeltaFault)) (l : List ℕ) → (no_room a l && true) ≡ granted_as (exchanged_as ops bytes a) l
+      taken ops bytes (Ok n) l = and-true _
+      taken ops bytes (Err f) l = refl
 
-      answered : (b : List ℕ) (a : Computed) → (made b).answer ≡ a → rest (on_way (DigestSent b) w.sent w) ≡ is_granted (with_digest told.lent (after_computing g.clock g.answers w.follower (made b).lent a))
-      answered b (computed.Delta ops bytes) q =
-          let d = part 0 bytes (made b).lent in
+      answered : (b : List ℕ) (a : (Result Sent Refusal)) → (made b).answer ≡ a → rest (on_way (DigestSent b) w.sent w) ≡ is_granted (with_digest told.lent (after_computing g.clock g.answers w.follower (made b).lent a))
+      answered b (Ok s) q =
+          let d = part 0 s.bytes (made b).lent in
           let o = lent_apply d g.clock g.answers w.follower in
-          ap (λ (a : Computed). wrote_delta a && after-made (lent_happen answering (on_way (DigestSent b) w.sent w))) q
+          ap (λ (a : (Result Sent Refusal)). wrote_delta a && after-made (lent_happen answering (on_way (DigestSent b) w.sent w))) q
           ∙ ap after-made (second b _ q)
           ∙ ap (λ (c : Bool). (c && no_room o.answer o.lent.list) && true) clock-is
-          ∙ taken ops bytes o.answer o.lent.list
-      answered b (computed.Refused r) q = ap (λ (a : Computed). wrote_delta a && after-made (lent_happen answering (on_way (DigestSent b) w.sent w))) q
+          ∙ taken s.ops s.bytes o.answer o.lent.list
+      answered b (Err r) q = ap (λ (a : (Result Sent Refusal)). wrote_delta a && after-made (lent_happen answering (on_way (DigestSent b) w.sent w))) q
 
-      asked : (a : Written) → told.answer ≡ a → (wrote_digest told.answer && rest (lent_happen asking w)) ≡ is_granted (after_digesting g w.publisher w.follower told.lent a)
-      asked (written.Bytes n) e =
-          ap (λ (a : Written). wrote_digest a && rest (lent_happen asking w)) e
+      asked : (a : (Result ℕ Refusal)) → told.answer ≡ a → (wrote_digest told.answer && rest (lent_happen asking w)) ≡ is_granted (after_digesting g w.publisher w.follower told.lent a)
+      asked (Ok n) e =
+          ap (λ (a : (Result ℕ Refusal)). wrote_digest a && rest (lent_happen asking w)) e
           ∙ ap rest (first n e)
           ∙ answered (part 0 n told.lent) (made (part 0 n told.lent)).answer refl
-      asked (written.Refused r) e = ap (λ (a : Written). wrote_digest a && rest (lent_happen asking w)) e
+      asked (Err r) e = ap (λ (a : (Result ℕ Refusal)). wrote_digest a && rest (lent_happen asking w)) e
 
   -- What the call grants, its three events grant.
   pub exchange-granted : is_granted (lent_exchange g w.publisher w.follower) ≡ true → all_lent_granted (events_of g) w ≡ true
   unfolding lent_exchange
   exchange-granted = go is-asked
     where
-      go : (a : Ready) → is_granted (after_asking g w.publisher w.follower a) ≡ true → all_lent_granted (events_of g) w ≡ true
-      go ready.Yes e = three-granted ∙ e
-      go (ready.No s r) e = absurd (false≢true e)
+      go : (a : (Result (Unit {0}) Stopped)) → is_granted (after_asking g w.publisher w.follower a) ≡ true → all_lent_granted (events_of g) w ≡ true
+      go (Ok _) e = three-granted ∙ e
+      go (Err s) e = absurd (false≢true e)

@@ -19,8 +19,8 @@ use Rattle.rules.specs.Memory.{forget}
 use Rattle.rules.specs.Whole.{encode_whole}
 use Rattle.rules.specs.Lent.{add_whole, forget_on, lent_new}
 use Rattle.rules.specs.Profile.{Kind, profile_obeys}
-use Rattle.rules.specs.declared.Answer.{Answer}
-use Rattle.rules.specs.declared.Answer.TheVariants as plain
+use Rattle.std.specs.Prelude.{Err, Ok, Result}
+use Rattle.rules.specs.declared.Refusal.{Refusal}
 use Rattle.rules.specs.declared.Refusal.TheVariants.{BadTable}
 use Rattle.rules.proofs.Calls.{add-keeps, none-obeys}
 use Rattle.rules.proofs.Formed.{add-formed, empty-formed}
@@ -67,9 +67,9 @@ forgets : (m : Kind) (i : ℕ) (t : Table) → encode_whole (add_whole i (record
 unfolding add_whole forget
 forgets m i t = go (add i t).answer
   where
-    go : (a : Answer) → encode_whole (record { kind = m; memory = forget_on a i []; table = (add i t).table }) ≡ of_kind m (add i t).table
-    go plain.Done = refl
-    go (plain.Refused r) = refl
+    go : (a : (Result (Unit {0}) Refusal)) → encode_whole (record { kind = m; memory = forget_on a i []; table = (add i t).table }) ≡ of_kind m (add i t).table
+    go (Ok _) = refl
+    go (Err r) = refl
 
 adds : (m : Kind) (is : List ℕ) (t : Table) → obeys t ≡ true → profile_obeys m.profile t ≡ true → obeys (t ++ fresh_table is) ≡ true → lent_adds is (of_kind m t) ≡ of_kind m (t ++ fresh_table is)
 unfolding lent_adds fresh_table
@@ -77,7 +77,7 @@ adds m [] t o f ok = ap (of_kind m) (sym (append-nil t))
 adds m (i ∷ is) t o f ok =
     let e = add-last i t (fresh_table is) ok in
     let u = append_assoc t (made i ∷ []) (fresh_table is) in
-    ap (λ (x : Given Answer (List ℕ)). lent_adds is x.lent) (whole-encoded m t o f (plain.Refused BadTable) (add_whole i))
+    ap (λ (x : Given (Result (Unit {0}) Refusal) (List ℕ)). lent_adds is x.lent) (whole-encoded m t o f (Err BadTable) (add_whole i))
     ∙ ap (lent_adds is) (forgets m i t)
     ∙ ap (λ (x : Table). lent_adds is (of_kind m x)) e
     ∙ adds m is (t ++ (made i ∷ [])) (subst (λ (x : Table). obeys x ≡ true) e (add-keeps i t (number_fits i t (fresh_table is) ok) o))

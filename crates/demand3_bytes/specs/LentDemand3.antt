@@ -12,7 +12,7 @@ use Rattle.rules.specs.Profile.{Kind}
 use Rattle.rules.specs.Table.{node_of, numbers_of}
 use Rattle.rules.specs.Whole.{valid_whole}
 use Rattle.rules.specs.Lent.{lent_digest, lent_apply, lent_apply_as}
-use Rattle.rules.specs.declared.Applied.TheVariants as applied
+use Rattle.std.specs.Prelude.{Err}
 use Rattle.rules.specs.declared.Refusal.{Refusal}
 use Rattle.rules.specs.declared.Refusal.TheVariants.{NoPlace}
 use Rattle.demand3.specs.Forms.{Order, lent_compute_by}
@@ -20,7 +20,6 @@ use Rattle.demand3.specs.World.{Exchange, Idle, DigestSent, DeltaSent, Event, Wr
 use Rattle.demand3.specs.Demand3.{Claims, AllRise, Stage, NotBegun, all_quiet, unlimited, onward, ending, wrote_digest, wrote_delta, no_room, holdings, SameMax}
 use Rattle.exchange_ask.specs.declared.Step.TheVariants as step
 use Rattle.exchange.specs.Exchanging.{Lending, lent_exchange}
-use Rattle.exchange.specs.declared.Exchanged.TheVariants as exchanged
 use Rattle.demand3_bytes.specs.LentWorld.{LentWorld, table_in, kind_in, lent_start, lent_happen, lent_after}
 
 -- ---- the claims at a moment
@@ -98,7 +97,7 @@ pub record LentOneProfile (p f : Kind) (is : List ℕ) : Type 0 where
       → (es : List Event) (k : Which) (b : Bytes)
       → arrives k (lent_after es (lent_start p f is)).sent ≡ DeltaSent b
       → (now : ℕ) (answers : Bytes) (why : Refusal) (at : ℕ)
-      → (lent_apply b now answers (lent_after es (lent_start p f is)).follower).answer ≡ applied.Refused why at
+      → (lent_apply b now answers (lent_after es (lent_start p f is)).follower).answer ≡ (Err (record { why = why; at = at }))
       → why ≡ NoPlace
   pub as-free : p.profile ≡ f.profile
       → (es : List Event) (k : Which) (b : Bytes)
@@ -107,5 +106,5 @@ pub record LentOneProfile (p f : Kind) (is : List ℕ) : Type 0 where
       → lent_apply b now answers (lent_after es (lent_start p f is)).follower ≡ lent_apply_as (reading_all f) b now answers (lent_after es (lent_start p f is)).follower
   pub exchange_places : p.profile ≡ f.profile
       → (es : List Event) (g : Lending) (why : Refusal)
-      → (lent_exchange g (lent_after es (lent_start p f is)).publisher (lent_after es (lent_start p f is)).follower).answer ≡ exchanged.Refused step.Applying why
+      → (lent_exchange g (lent_after es (lent_start p f is)).publisher (lent_after es (lent_start p f is)).follower).answer ≡ (Err (record { step = step.Applying; why = why }))
       → why ≡ NoPlace

@@ -6,13 +6,13 @@ use Rattle.fields.specs.Choice.{pick}
 use Rattle.rules.specs.Sizes.{numbers}
 use Rattle.rules.specs.Given.{Given}
 use Rattle.rules.specs.Lent.{lent_beat, lent_offer}
-use Rattle.rules.specs.declared.Applied.TheVariants as applied
+use Rattle.std.specs.Prelude.{Err, Ok, Result}
+use Rattle.exchange.specs.declared.Exchanged.{Exchanged}
+use Rattle.exchange_ask.specs.declared.Stopped.{Stopped}
 use Rattle.rules.specs.declared.Heartbeat.{Heartbeat}
 use Rattle.demand3.specs.Forms.{InLine}
 use Rattle.demand3.specs.World.{Exchange, Event, Digesting, Computing, Applying, Side, Publishers, Followers}
 use Rattle.demand3.specs.Demand3.{no_room, least_width, is_none}
-use Rattle.exchange.specs.declared.Exchanged.{Exchanged}
-use Rattle.exchange.specs.declared.Exchanged.TheVariants as exchanged
 use Rattle.exchange.specs.Exchanging.{Lending, ExchangeLent, lent_exchange}
 use Rattle.demand3_bytes.specs.LentWorld.{LentWorld, lent_after}
 
@@ -27,24 +27,24 @@ events_of g =
     ∷ []
 
 -- where it is refused, nothing has happened
-abbrev pub run_of : (lending : Lending) (answer : Exchanged) → List Event
-run_of g (exchanged.Done ops bytes nodes) = events_of g
-run_of g (exchanged.Refused s r) = []
+abbrev pub run_of : (lending : Lending) (answer : (Result Exchanged Stopped)) → List Event
+run_of g (Ok x) = events_of g
+run_of g (Err s) = []
 
 -- the world after a call: only the follower's bytes, what is on its way and what was ever computed may be others
 abbrev pub exchanged_to : (follower : Bytes) (exchange : Exchange) (sent : List Bytes) (world : LentWorld) → LentWorld
 exchanged_to f x ss w = record { publisher = w.publisher; follower = f; given = w.given; exchange = x; sent = ss }
 
 -- a call is a run
-abbrev pub IsRun : (lending : Lending) (world : LentWorld) (outcome : Given Exchanged ExchangeLent) → Type 0
+abbrev pub IsRun : (lending : Lending) (world : LentWorld) (outcome : Given (Result Exchanged Stopped) ExchangeLent) → Type 0
 IsRun g w o = (x : Exchange) × (ss : List Bytes) × (lent_after (run_of g o.answer) w ≡ exchanged_to o.lent.follower x ss w)
 
 -- nothing refused, read off the answer: no number, and no node answers Room
-abbrev pub granted_as : (answer : Exchanged) (answers : Bytes) → Bool
-granted_as (exchanged.Done ops bytes nodes) l = no_room (applied.Nodes nodes) l
-granted_as (exchanged.Refused s r) l = false
+abbrev pub granted_as : (answer : (Result Exchanged Stopped)) (answers : Bytes) → Bool
+granted_as (Ok x) l = no_room (Ok x.nodes) l
+granted_as (Err s) l = false
 
-abbrev pub is_granted : (outcome : Given Exchanged ExchangeLent) → Bool
+abbrev pub is_granted : (outcome : Given (Result Exchanged Stopped) ExchangeLent) → Bool
 is_granted o = granted_as o.answer o.lent.answers
 
 -- ---- one after the other, among beats and offers

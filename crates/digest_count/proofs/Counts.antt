@@ -12,40 +12,40 @@ use Rattle.rules.specs.Delta.{number_lacks}
 use Rattle.rules.specs.Digest.{count_width, entry_width}
 use Rattle.rules.specs.declared.Refusal.TheVariants.{Cut, TooMany, BadEdition}
 use Rattle.digest_count.specs.Counting.{count_in, count_told, count_whole}
-use Rattle.digest_count.specs.declared.Counted.TheVariants as counted
+use Rattle.std.specs.Prelude.{Err, Ok}
 
 -- ---- each case; n is the count
 
 module _ (l : List ℕ) where
-  pub no-count : length l < count_width → counted.Refused (Cut (count_width - length l)) ≡ count_told l
+  pub no-count : length l < count_width → Err (Cut (count_width - length l)) ≡ count_told l
   unfolding count_told
   no-count h = rw (lt-leb count_width (length l) h)
 
   module _ (n : ℕ) (is : n ≡ nat_of (part 0 count_width l)) (there : count_width ≤ length l) where
-    pub too_many : max_nodes < n → counted.Refused TooMany ≡ count_told l
+    pub too_many : max_nodes < n → Err TooMany ≡ count_told l
     unfolding count_told
     too_many h = rw (le-leb count_width (length l) there, ← is, lt-leb n max_nodes h)
 
     pub entries-cut : n ≤ max_nodes → length l - count_width < n * entry_width → (k : ℕ) → k ≡ number_lacks (length l - count_width)
-        → counted.Refused (Cut k) ≡ count_told l
+        → Err (Cut k) ≡ count_told l
     unfolding count_told
     entries-cut h g k e = rw (e, le-leb count_width (length l) there, ← is, le-leb n max_nodes h, lt-leb (n * entry_width) (length l - count_width) g)
 
-    pub entries-there : n ≤ max_nodes → n * entry_width ≤ length l - count_width → counted.Entries n ≡ count_told l
+    pub entries-there : n ≤ max_nodes → n * entry_width ≤ length l - count_width → Ok n ≡ count_told l
     unfolding count_told
     entries-there h g = rw (le-leb count_width (length l) there, ← is, le-leb n max_nodes h, le-leb (n * entry_width) (length l - count_width) g)
 
   -- V1
-  pub inside : (k : ℕ) → 0 < length l % entry_width → k ≡ number_lacks (length l) → counted.Refused (Cut k) ≡ count_whole l
+  pub inside : (k : ℕ) → 0 < length l % entry_width → k ≡ number_lacks (length l) → Err (Cut k) ≡ count_whole l
   unfolding count_whole
   inside k h e = rw (e, ne_eqb (length l % entry_width) 0 (λ z. omega arith))
 
   module _ (whole : length l % entry_width ≡ 0) where
-    pub few-whole : length l / entry_width ≤ max_nodes → counted.Entries (length l / entry_width) ≡ count_whole l
+    pub few-whole : length l / entry_width ≤ max_nodes → Ok (length l / entry_width) ≡ count_whole l
     unfolding count_whole
     few-whole h = rw (eq-eqb (length l % entry_width) 0 whole, le-leb (length l / entry_width) max_nodes h)
 
-    pub many-whole : max_nodes < length l / entry_width → counted.Refused TooMany ≡ count_whole l
+    pub many-whole : max_nodes < length l / entry_width → Err TooMany ≡ count_whole l
     unfolding count_whole
     many-whole h = rw (eq-eqb (length l % entry_width) 0 whole, lt-leb (length l / entry_width) max_nodes h)
 
@@ -59,6 +59,6 @@ module _ (l : List ℕ) where
     unfolding count_in
     in-v1 e = rw (ne_eqb edition 0 (λ z. omega arith), eq-eqb edition 1 e)
 
-    pub in-none : (edition ≡ 0 → ⊥) → (edition ≡ 1 → ⊥) → counted.Refused BadEdition ≡ count_in edition l
+    pub in-none : (edition ≡ 0 → ⊥) → (edition ≡ 1 → ⊥) → Err BadEdition ≡ count_in edition l
     unfolding count_in
     in-none f g = rw (ne_eqb edition 0 f, ne_eqb edition 1 g)

@@ -20,18 +20,16 @@ use Rattle.rules.specs.declared.Refusal.{Refusal}
 use Rattle.rules.specs.declared.Refusal.TheVariants.{Cut, TooMany, BadEdition}
 use Rattle.digest_count.specs.Counting.{count_in, count_told, count_whole}
 use Rattle.digest_read.specs.Held.{digest_in, entries_at, held_of, in_places, places, rest_at, rest_of}
-use Rattle.digest_count.specs.declared.Counted.{Counted}
-use Rattle.digest_count.specs.declared.Counted.TheVariants as counted
-use Rattle.digest_read.specs.declared.DigestRead.TheVariants as answer
+use Rattle.std.specs.Prelude.{Err, Ok, Result}
 use Rattle.digest_read.specs.declared.Digest.{Digest}
 use Rattle.digest_read.specs.declared.Gathered.{Gathered}
 
 -- ---- what a count means
 
 -- so many entries behind the first bytes, and what stands behind them
-abbrev read_by : ℕ → List ℕ → Counted → DigestRead
-read_by head l (counted.Entries n) = first_entries n (drop head l)
-read_by head l (counted.Refused r) = Refused r
+abbrev read_by : ℕ → List ℕ → Result ℕ Refusal → DigestRead
+read_by head l (Ok n) = first_entries n (drop head l)
+read_by head l (Err r) = Refused r
 
 read_told : (l : List ℕ) → read_counted l ≡ read_by count_width l (count_told l)
 unfolding count_told part
@@ -53,7 +51,7 @@ read_told l =
     some = Cut (number_lacks (length l - count_width))
 
     go : (a b c : Bool) → pick a (pick b (pick c good (Refused some)) (Refused TooMany)) (Refused none)
-        ≡ read_by count_width l (pick a (pick b (pick c (counted.Entries n) (counted.Refused some)) (counted.Refused TooMany)) (counted.Refused none))
+        ≡ read_by count_width l (pick a (pick b (pick c (Ok n) (Err some)) (Err TooMany)) (Err none))
     go true true true = refl
     go true true false = refl
     go true false c = refl
@@ -70,7 +68,7 @@ read_whole l = go (eqb (length l % entry_width) 0) (leb (length l / entry_width)
     some = Cut (number_lacks (length l))
 
     go : (a b : Bool) → pick a (pick b (first_entries n l) (Refused TooMany)) (Refused some)
-        ≡ read_by 0 l (pick a (pick b (counted.Entries n) (counted.Refused TooMany)) (counted.Refused some))
+        ≡ read_by 0 l (pick a (pick b (Ok n) (Err TooMany)) (Err some))
     go true true = refl
     go true false = refl
     go false b = refl
@@ -80,7 +78,7 @@ unfolding read_entries count_in head_width
 read-by edition l = go (eqb edition 0) (eqb edition 1)
   where
     go : (a b : Bool) → pick a (read_counted l) (pick b (read_to_end l) (Refused BadEdition))
-        ≡ read_by (pick a count_width 0) l (pick a (count_told l) (pick b (count_whole l) (counted.Refused BadEdition)))
+        ≡ read_by (pick a count_width 0) l (pick a (count_told l) (pick b (count_whole l) (Err BadEdition)))
     go true b = read_told l
     go false true = read_whole l
     go false false = refl
@@ -95,14 +93,14 @@ pub record Announced (edition : ℕ) (l : List ℕ) (n : ℕ) : Type 0 where
   pub there : rest_place edition n ≤ length l
   pub read : read_entries edition l ≡ Entries (entries_at n (drop (head_width edition) l)) (drop (rest_place edition n) l)
 
-no-entries : {A : Type 0} (r : Refusal) (n : ℕ) → counted.Refused r ≡ counted.Entries n → A
+no-entries : {A : Type 0} (r : Refusal) (n : ℕ) → Err r ≡ Ok n → A
 no-entries r n e = let z : ◌≡◌ {A = ℕ} 0 1 = cc in absurd (omega arith)
 
 -- so many are there behind the first bytes
 abbrev There : ℕ → List ℕ → ℕ → Type 0
 There head l n = (head ≤ count_width) × (n ≤ max_nodes) × (head + n * entry_width ≤ length l)
 
-there-told : (l : List ℕ) (n : ℕ) → count_told l ≡ counted.Entries n → There count_width l n
+there-told : (l : List ℕ) (n : ℕ) → count_told l ≡ Ok n → There count_width l n
 unfolding count_told
 there-told l n e = go (leb count_width (length l)) (leb m max_nodes) (leb (m * entry_width) (length l - count_width)) refl refl refl e
   where
@@ -116,7 +114,7 @@ there-told l n e = go (leb count_width (length l)) (leb m max_nodes) (leb (m * e
     some = Cut (number_lacks (length l - count_width))
 
     go : (a b c : Bool) → leb count_width (length l) ≡ a → leb m max_nodes ≡ b → leb (m * entry_width) (length l - count_width) ≡ c
-        → pick a (pick b (pick c (counted.Entries m) (counted.Refused some)) (counted.Refused TooMany)) (counted.Refused none) ≡ counted.Entries n
+        → pick a (pick b (pick c (Ok m) (Err some)) (Err TooMany)) (Err none) ≡ Ok n
         → There count_width l n
     go true true true p q r s =
         let same : m ≡ n = cc in
@@ -128,7 +126,7 @@ there-told l n e = go (leb count_width (length l)) (leb m max_nodes) (leb (m * e
     go true false c p q r s = no-entries TooMany n s
     go false b c p q r s = no-entries none n s
 
-there-whole : (l : List ℕ) (n : ℕ) → count_whole l ≡ counted.Entries n → There 0 l n
+there-whole : (l : List ℕ) (n : ℕ) → count_whole l ≡ Ok n → There 0 l n
 unfolding count_whole
 there-whole l n e = go (eqb (length l % entry_width) 0) (leb m max_nodes) refl e
   where
@@ -139,7 +137,7 @@ there-whole l n e = go (eqb (length l % entry_width) 0) (leb m max_nodes) refl e
     some = Cut (number_lacks (length l))
 
     go : (a b : Bool) → leb m max_nodes ≡ b
-        → pick a (pick b (counted.Entries m) (counted.Refused TooMany)) (counted.Refused some) ≡ counted.Entries n
+        → pick a (pick b (Ok m) (Err TooMany)) (Err some) ≡ Ok n
         → There 0 l n
     go true true q s =
         let same : m ≡ n = cc in
@@ -148,16 +146,16 @@ there-whole l n e = go (eqb (length l % entry_width) 0) (leb m max_nodes) refl e
     go true false q s = no-entries TooMany n s
     go false b q s = no-entries some n s
 
-there-in : (edition : ℕ) (l : List ℕ) (n : ℕ) → count_in edition l ≡ counted.Entries n → There (head_width edition) l n
+there-in : (edition : ℕ) (l : List ℕ) (n : ℕ) → count_in edition l ≡ Ok n → There (head_width edition) l n
 unfolding count_in head_width
 there-in edition l n = go (eqb edition 0) (eqb edition 1)
   where
-    go : (a b : Bool) → pick a (count_told l) (pick b (count_whole l) (counted.Refused BadEdition)) ≡ counted.Entries n → There (pick a count_width 0) l n
+    go : (a b : Bool) → pick a (count_told l) (pick b (count_whole l) (Err BadEdition)) ≡ Ok n → There (pick a count_width 0) l n
     go true b e = there-told l n e
     go false true e = there-whole l n e
     go false false e = no-entries BadEdition n e
 
-pub announced : (edition : ℕ) (l : List ℕ) (n : ℕ) → count_in edition l ≡ counted.Entries n → Announced edition l n
+pub announced : (edition : ℕ) (l : List ℕ) (n : ℕ) → count_in edition l ≡ Ok n → Announced edition l n
 announced edition l n e =
     let t = there-in edition l n e in
     record {
@@ -170,12 +168,16 @@ announced edition l n e =
           ∙ ap (Entries (entries_at n (drop (head_width edition) l))) (drop-drop (n * entry_width) (head_width edition) l);
     }
 
-pub refused : (edition : ℕ) (l : List ℕ) (r : Refusal) → count_in edition l ≡ counted.Refused r → read_entries edition l ≡ Refused r
+-- the same of what the code counted
+pub counted : (edition : ℕ) (l : List ℕ) (n : ℕ) (c : Result ℕ Refusal) → c ≡ count_in edition l → c ≡ Ok n → Announced edition l n
+counted edition l n c is e = announced edition l n (sym is ∙ e)
+
+pub refused : (edition : ℕ) (l : List ℕ) (r : Refusal) → count_in edition l ≡ Err r → read_entries edition l ≡ Refused r
 refused edition l r e = read-by edition l ∙ ap (read_by (head_width edition) l) e
 
 -- ---- the digest
 
-module _ (edition : ℕ) (l : List ℕ) (n : ℕ) (e : count_in edition l ≡ counted.Entries n) where
+module _ (edition : ℕ) (l : List ℕ) (n : ℕ) (e : count_in edition l ≡ Ok n) where
   abbrev told : List NodeDigest
   told = tell_all (entries_at n (drop (head_width edition) l)) []
 
@@ -187,11 +189,11 @@ module _ (edition : ℕ) (l : List ℕ) (n : ℕ) (e : count_in edition l ≡ co
   begins = let h = (announced edition l n e).there in rw length-drop (omega arith)
 
   pub digest-read : (g : Gathered) → g ≡ in_places told
-      → ◌≡◌ {A = Digest} (record { read = answer.Nodes g.count (rest_place edition n); entries = g.entries }) (digest_in edition l)
+      → ◌≡◌ {A = Digest} (record { read = Ok (record { count = g.count; rest = rest_place edition n }); entries = g.entries }) (digest_in edition l)
   unfolding digest_in
   digest-read g p =
-      ap (λ (x : Gathered). record { read = answer.Nodes x.count (rest_place edition n); entries = x.entries }) p
-      ∙ ap (λ (k : ℕ). record { read = answer.Nodes (length told) k; entries = places max_nodes told })
+      ap (λ (x : Gathered). record { read = Ok (record { count = x.count; rest = rest_place edition n }); entries = x.entries }) p
+      ∙ ap (λ (k : ℕ). record { read = Ok (record { count = length told; rest = k }); entries = places max_nodes told })
       (sym begins)
       ∙ ap (held_of (length l)) (sym whole)
 
@@ -202,12 +204,12 @@ module _ (edition : ℕ) (l : List ℕ) (n : ℕ) (e : count_in edition l ≡ co
   unfolding rest_at
   rest-begins = rw whole (sym begins)
 
-module _ (edition : ℕ) (l : List ℕ) (r : Refusal) (e : count_in edition l ≡ counted.Refused r) where
+module _ (edition : ℕ) (l : List ℕ) (r : Refusal) (e : count_in edition l ≡ Err r) where
   pub none : read_digest edition l ≡ Refused r
   unfolding read_digest
   none = ap wire.gathered (refused edition l r e)
 
-  pub digest-refused : ◌≡◌ {A = Digest} (record { read = answer.Refused r; entries = places max_nodes [] }) (digest_in edition l)
+  pub digest-refused : ◌≡◌ {A = Digest} (record { read = Err r; entries = places max_nodes [] }) (digest_in edition l)
   unfolding digest_in
   digest-refused = ap (held_of (length l)) (sym none)
 

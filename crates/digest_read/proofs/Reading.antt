@@ -11,9 +11,7 @@ use Rattle.rules.specs.Digest.{NodeDigest, DigestRead, Entries, Refused, entry_o
 use Rattle.rules.specs.declared.Refusal.{Refusal}
 use Rattle.digest_count.specs.Counting.{count_in}
 use Rattle.digest_read.specs.Held.{digest_in, entries_at, entries_in, entries_read, held_of, rest_of}
-use Rattle.digest_count.specs.declared.Counted.{Counted}
-use Rattle.digest_count.specs.declared.Counted.TheVariants as counted
-use Rattle.digest_read.specs.declared.DigestRead.TheVariants as answer
+use Rattle.std.specs.Prelude.{Err, Ok, Result}
 use Rattle.digest_read.proofs.Counts.{announced, none, whole}
 use Rattle.digest_read.proofs.Gathering.{tell-length}
 use Rattle.digest_read.proofs.Places.{backs-places}
@@ -33,7 +31,7 @@ entries-in edition l = go (count_in edition l) refl
     few (Entries ds rest) h = backs-places max_nodes ds h
     few (Refused r) h = refl
 
-    short : (n : ℕ) → count_in edition l ≡ counted.Entries n → length (entries_read (read_digest edition l)) ≤ max_nodes
+    short : (n : ℕ) → count_in edition l ≡ Ok n → length (entries_read (read_digest edition l)) ≤ max_nodes
     short n e =
         let k = ap (λ (x : DigestRead). length (entries_read x)) (whole edition l n e) in
         let a = (announced edition l n e).few in
@@ -41,25 +39,25 @@ entries-in edition l = go (count_in edition l) refl
         let u = length-unblock entry_width entry_of n (drop (head_width edition) l) in
         omega arith
 
-    go : (c : Counted) → count_in edition l ≡ c → entries_in (held_of (length l) (read_digest edition l)) ≡ entries_read (read_digest edition l)
-    go (counted.Entries n) e = few (read_digest edition l) (short n e)
-    go (counted.Refused r) e = few (read_digest edition l) (let k = ap (λ (x : DigestRead). length (entries_read x)) (none edition l r e) in omega arith)
+    go : (c : Result ℕ Refusal) → count_in edition l ≡ c → entries_in (held_of (length l) (read_digest edition l)) ≡ entries_read (read_digest edition l)
+    go (Ok n) e = few (read_digest edition l) (short n e)
+    go (Err r) e = few (read_digest edition l) (let k = ap (λ (x : DigestRead). length (entries_read x)) (none edition l r e) in omega arith)
 
 -- where the answer tells of nodes, the digest is read
-pub read-nodes : (edition : ℕ) (l : List ℕ) (count rest : ℕ) → (digest_in edition l).read ≡ answer.Nodes count rest
+pub read-nodes : (edition : ℕ) (l : List ℕ) (count rest : ℕ) → (digest_in edition l).read ≡ Ok (record { count = count; rest = rest })
     → read_digest edition l ≡ Entries (entries_in (digest_in edition l)) (rest_of (read_digest edition l))
 unfolding digest_in
 read-nodes edition l count rest e = go (read_digest edition l) e ∙ ap (λ (ds : List NodeDigest). Entries ds (rest_of (read_digest edition l))) (sym (entries-in edition l))
   where
-    go : (x : DigestRead) → (held_of (length l) x).read ≡ answer.Nodes count rest → x ≡ Entries (entries_read x) (rest_of x)
+    go : (x : DigestRead) → (held_of (length l) x).read ≡ Ok (record { count = count; rest = rest }) → x ≡ Entries (entries_read x) (rest_of x)
     go (Entries ds r) q = refl
     go (Refused r) q = let z : ◌≡◌ {A = ℕ} 0 1 = cc in absurd (omega arith)
 
 -- where it refuses, the digest is refused, for that reason
-pub read-refused : (edition : ℕ) (l : List ℕ) (r : Refusal) → (digest_in edition l).read ≡ answer.Refused r → read_digest edition l ≡ Refused r
+pub read-refused : (edition : ℕ) (l : List ℕ) (r : Refusal) → (digest_in edition l).read ≡ Err r → read_digest edition l ≡ Refused r
 unfolding digest_in
 read-refused edition l r e = go (read_digest edition l) e
   where
-    go : (x : DigestRead) → (held_of (length l) x).read ≡ answer.Refused r → x ≡ Refused r
+    go : (x : DigestRead) → (held_of (length l) x).read ≡ Err r → x ≡ Refused r
     go (Entries ds rest) q = let z : ◌≡◌ {A = ℕ} 0 1 = cc in absurd (omega arith)
     go (Refused s) q = let z : s ≡ r = cc in ap Refused z

@@ -9,8 +9,9 @@ use Rattle.rules.specs.Node.{beats}
 use Rattle.rules.proofs.Told.{number_is, value-is, need-is, not-refused, same-refusal}
 use Rattle.digest_read.specs.Told.{place_values, answer_told, digest_told}
 use Rattle.digest_read.specs.declared.NodeDigest.{NodeDigest as Place}
-use Rattle.digest_read.specs.declared.DigestRead.{DigestRead as Answer}
-use Rattle.digest_read.specs.declared.DigestRead.TheVariants as answer
+use Rattle.std.specs.Prelude.{Err, Ok, Result}
+use Rattle.digest_read.specs.declared.DigestRead.{DigestRead}
+use Rattle.rules.specs.declared.Refusal.{Refusal}
 use Rattle.digest_read.specs.declared.Digest.{Digest}
 
 -- a place by its numbers
@@ -29,16 +30,18 @@ same-places (p ∷ ps) (q ∷ qs) e =
     ∙ ap₂ (λ (x y : ℕ). placed q.number q.heartbeat.0 x y ∷ ps) (at 2) (at 3)
     ∙ ap (λ (l : List Place). q ∷ l) rest
 
-same-told : (a b : Answer) (ps qs : List Place) → answer_told a ps ≡ answer_told b qs → (a ≡ b) × (ps ≡ qs)
-same-told (answer.Nodes n k) (answer.Nodes m l) ps qs e =
-    (ap₂ answer.Nodes (value-is e 0) (value-is e 1), same-places ps qs (ap (λ (t : Told). drop 2 t.values) e))
-same-told (answer.Nodes n k) (answer.Refused r) ps qs e = not-refused r (number_is e)
-same-told (answer.Refused r) (answer.Nodes m l) ps qs e = not-refused r (sym (number_is e))
-same-told (answer.Refused r) (answer.Refused s) ps qs e =
-    (ap answer.Refused (same-refusal r s (number_is e) (need-is e)), same-places ps qs (ap (λ (t : Told). t.values) e))
+same-told : (a b : Result DigestRead Refusal) (ps qs : List Place) → answer_told a ps ≡ answer_told b qs → (a ≡ b) × (ps ≡ qs)
+same-told (Ok a) (Ok b) ps qs e =
+    let count : a.count ≡ b.count = value-is e 0 in
+    let rest : a.rest ≡ b.rest = value-is e 1 in
+    (ap Ok (λ i. record { count = count i; rest = rest i }), same-places ps qs (ap (λ (t : Told). drop 2 t.values) e))
+same-told (Ok d) (Err r) ps qs e = not-refused r (number_is e)
+same-told (Err r) (Ok d) ps qs e = not-refused r (sym (number_is e))
+same-told (Err r) (Err s) ps qs e =
+    (ap Err (same-refusal r s (number_is e) (need-is e)), same-places ps qs (ap (λ (t : Told). t.values) e))
 
 pub same-digest : (a b : Digest) → digest_told a ≡ digest_told b → a ≡ b
 unfolding digest_told
 same-digest a b e =
     let s = same-told a.read b.read a.entries b.entries e in
-    ap₂ (λ (x : Answer) (y : List Place). record { read = x; entries = y }) s.0 s.1
+    ap₂ (λ (x : Result DigestRead Refusal) (y : List Place). record { read = x; entries = y }) s.0 s.1

@@ -1,6 +1,6 @@
 -- A digest as the code holds it: the answer, and eight places for the entries. What each function makes of the bytes, by the definitions of
 -- `rules`.
-use Rattle.std.specs.Prelude.{ℕ, zero, suc, ◌*◌, ◌-◌, ◌≤◌, List, [], ◌∷◌, length, take}
+use Rattle.std.specs.Prelude.{ℕ, zero, suc, ◌*◌, ◌-◌, ◌≤◌, List, [], ◌∷◌, length, take, Err, Ok, Result}
 use Rattle.fields.specs.Numbers.{Bytes}
 use Rattle.fields.specs.Blocks.{unblock}
 use Rattle.rules.specs.Sizes.{max_nodes}
@@ -8,9 +8,9 @@ use Rattle.rules.specs.Node.{beats}
 use Rattle.rules.specs.Digest.{NodeDigest, DigestRead, Entries, Refused, entry_width, entry_of, read_digest}
 use Rattle.digest_read.specs.declared.NodeDigest.{NodeDigest as Place}
 use Rattle.digest_read.specs.declared.DigestRead.{DigestRead as Answer}
-use Rattle.digest_read.specs.declared.DigestRead.TheVariants as answer
+use Rattle.rules.specs.declared.Refusal.{Refusal}
 use Rattle.digest_read.specs.declared.Digest.{Digest}
-use Rattle.digest_read.specs.declared.Pair.{Pair}
+use Rattle.rules.specs.declared.Pair.{Pair}
 use Rattle.digest_read.specs.declared.Gathered.{Gathered}
 
 -- ---- entries in places
@@ -65,8 +65,8 @@ numbers_told (d ∷ ds) = d.number ∷ numbers_told ds
 
 -- what is held of a digest of so many bytes with its rest
 abbrev pub held_of : (n : ℕ) (read : DigestRead) → Digest
-held_of n (Entries ds rest) = record { read = answer.Nodes (length ds) (n - length rest); entries = places max_nodes ds }
-held_of n (Refused r) = record { read = answer.Refused r; entries = places max_nodes [] }
+held_of n (Entries ds rest) = record { read = Ok (record { count = length ds; rest = n - length rest }); entries = places max_nodes ds }
+held_of n (Refused r) = record { read = Err r; entries = places max_nodes [] }
 
 unfoldable pub digest_in : (edition : ℕ) (digest : Bytes) → Digest
 digest_in edition l = held_of (length l) (read_digest edition l)
@@ -85,9 +85,9 @@ rest_at edition l = begin_of (length l) (read_digest edition l)
 
 -- ---- what a digest tells
 
-abbrev pub entries_of : (answer : Answer) (places : List Place) → List NodeDigest
-entries_of (answer.Nodes count rest) ps = backs (take count ps)
-entries_of (answer.Refused r) ps = []
+abbrev pub entries_of : (answer : Result Answer Refusal) (places : List Place) → List NodeDigest
+entries_of (Ok d) ps = backs (take d.count ps)
+entries_of (Err r) ps = []
 
 abbrev pub entries_in : (digest : Digest) → List NodeDigest
 entries_in d = entries_of d.read d.entries

@@ -2,7 +2,7 @@
 -- entry as its four numbers, written from left to right. Assumes nothing.
 use Prim.Native.Nat.{ℕ, suc, ◌+◌, ◌*◌, ◌<◌, ◌≤◌}
 use mathlib.Core.Path.{◌≡◌, ◌∙◌, ap, refl, sym}
-use mathlib.Core.Bool.{true, false}
+use mathlib.Core.Bool.{Bool, true, false}
 use mathlib.Core.List.{List, [], ◌∷◌, ◌++◌, append_assoc}
 use native.Mathlib.Omega.{arith}
 use native.Mathlib.Numerals.{add-one}
@@ -33,6 +33,12 @@ node-long i l e h = length_part (node_place i) node_width l (omega arith)
 pub number_is : (i n : ℕ) (l b : List ℕ) → n ≡ nat_of (part 0 number_width b) → b ≡ node_bytes i l → n ≡ (node_at i l).number
 unfolding decode_node
 number_is i n l b p q = p ∙ ap (λ (x : List ℕ). nat_of (part 0 number_width x)) q
+
+-- whether node i is excluded, by the entry that was read of it
+pub asked : (i : ℕ) (l excluded b : List ℕ) (x : NodeDigest) (t u : Bool) → x ≡ digest_of_node (decode_node b) → b ≡ node_bytes i l → t ≡ among x.number excluded → t ≡ u
+    → among (node_at i l).number excluded ≡ u
+asked i l excluded b x t u e q is v =
+    ap (λ (y : NodeDigest). among y.number excluded) (sym (e ∙ ap (λ (z : List ℕ). digest_of_node (decode_node z)) q)) ∙ sym is ∙ v
 
 -- what the digest tells of the others
 abbrev pub digest_from : (i : ℕ) (excluded : List ℕ) (table : Bytes) → List NodeDigest
@@ -88,21 +94,16 @@ entry-fields x l a b c d h p q r s =
 -- ---- what the loop of the writer keeps: d was e at first, and the entries from node i on go to `at`
 
 pub record Writes (excluded l e : List ℕ) (at i : ℕ) (d : List ℕ) : Type 0 where
-  pub within : i ≤ nodes_of l
   pub same : length d ≡ length e
   pub room : at + length (digest_from i excluded l) * entry_width ≤ length d
   pub rest : put at (flat entry_bytes (digest_from i excluded l)) d ≡ put 0 (flat entry_bytes (digest_of excluded (decode l))) e
 
 module _ (excluded l e : List ℕ) where
-  pub writes-none : length (digest_of excluded (decode l)) * entry_width ≤ length e → Writes excluded l e 0 0 e
-  writes-none h = record { within = omega arith; same = refl; room = omega arith; rest = refl }
-
   module _ (at i : ℕ) (d : List ℕ) (w : Writes excluded l e at i d) where
     pub writes-past : i < nodes_of l → among (node_at i l).number excluded ≡ true → Writes excluded l e at (i + 1) d
     writes-past h t =
         let p = passed_over excluded l i h t in
         record {
-          within = omega arith;
           same = w.same;
           room = rw p at w.room;
           rest = ap (λ (ds : List NodeDigest). put at (flat entry_bytes ds) d) (sym p) ∙ w.rest;
@@ -124,7 +125,6 @@ module _ (excluded l e : List ℕ) where
         let g = w.room in
         let n : length a ≡ length d = ap length r ∙ length-put at (entry_bytes x) d (omega arith) in
         record {
-          within = omega arith;
           same = n ∙ w.same;
           room = omega arith;
           rest =
@@ -141,28 +141,24 @@ module _ (excluded l e : List ℕ) where
 -- ---- what the loop of the counter keeps
 
 pub record Counts (excluded l : List ℕ) (count i : ℕ) : Type 0 where
-  pub within : i ≤ nodes_of l
   pub few : count ≤ i
   pub rest : count + length (digest_from i excluded l) ≡ length (digest_of excluded (decode l))
 
 module _ (excluded l : List ℕ) where
-  pub counts-none : Counts excluded l 0 0
-  counts-none = record { within = omega arith; few = omega arith; rest = omega arith }
-
   module _ (count i : ℕ) (w : Counts excluded l count i) where
     pub counts_past : i < nodes_of l → among (node_at i l).number excluded ≡ true → Counts excluded l count (i + 1)
     counts_past h t =
         let p = ap length (passed_over excluded l i h t) in
         let f = w.few in
         let r = w.rest in
-        record { within = omega arith; few = omega arith; rest = omega arith }
+        record { few = omega arith; rest = omega arith }
 
     pub counts-next : i < nodes_of l → among (node_at i l).number excluded ≡ false → Counts excluded l (count + 1) (i + 1)
     counts-next h t =
         let p = ap length (tells excluded l i h t) in
         let f = w.few in
         let r = w.rest in
-        record { within = omega arith; few = omega arith; rest = omega arith }
+        record { few = omega arith; rest = omega arith }
 
     pub counts_all : nodes_of l ≤ i → count ≡ length (digest_of excluded (decode l))
     counts_all h = let p = ap length (none_left excluded l i h) in let r = w.rest in omega arith

@@ -20,7 +20,7 @@ use Rattle.rules.specs.Digest.{NodeDigest, count_width, digest_bytes, digest_of,
 use Rattle.rules.specs.Whole.{decode_whole, valid_whole}
 use Rattle.rules.specs.Lent.{from_table, lent_digest}
 use Rattle.rules.specs.declared.Refusal.TheVariants.{BadEdition, BadTable, NoPlace}
-use Rattle.rules.specs.declared.Written.TheVariants.{Bytes, Refused}
+use Rattle.std.specs.Prelude.{Err, Ok}
 use Rattle.digest_write.proofs.Entries.{entries-long}
 
 -- by the width of what stands before the entries
@@ -72,17 +72,17 @@ module _ (edition : ℕ) where
 -- ---- on a table
 
 module _ (edition : ℕ) (excluded : List ℕ) (place : ℕ) (d : List ℕ) (t : Table) where
-  pub no-edition : is_edition edition ≡ false → Gives (write_digest edition excluded place t d) (Refused BadEdition) d
+  pub no-edition : is_edition edition ≡ false → Gives (write_digest edition excluded place t d) (Err BadEdition) d
   unfolding write_digest
   no-edition v = (rw v, rw v)
 
   module _ (known : is_edition edition ≡ true) where
-    pub past_end : length d < place → Gives (write_digest edition excluded place t d) (Refused NoPlace) d
+    pub past_end : length d < place → Gives (write_digest edition excluded place t d) (Err NoPlace) d
     unfolding write_digest
     past_end h = let g = lt-leb place (length d) h in (rw (known, g), rw (known, g))
 
     module _ (n : ℕ) (is : n ≡ length (digest_bytes edition (digest_of excluded t))) (h : place ≤ length d) where
-      pub no_room : length d - place < n → Gives (write_digest edition excluded place t d) (Refused NoPlace) d
+      pub no_room : length d - place < n → Gives (write_digest edition excluded place t d) (Err NoPlace) d
       unfolding write_digest
       no_room g =
           let b = le-leb place (length d) h in
@@ -90,7 +90,7 @@ module _ (edition : ℕ) (excluded : List ℕ) (place : ℕ) (d : List ℕ) (t :
           (rw (known, b, sym is, u), rw (known, b, sym is, u))
 
       pub written : (a : List ℕ) → n ≤ length d - place → a ≡ put place (digest_bytes edition (digest_of excluded t)) d
-          → Gives (write_digest edition excluded place t d) (Bytes n) a
+          → Gives (write_digest edition excluded place t d) (Ok n) a
       unfolding write_digest
       written a g e =
           let b = le-leb place (length d) h in
@@ -100,7 +100,7 @@ module _ (edition : ℕ) (excluded : List ℕ) (place : ℕ) (d : List ℕ) (t :
 -- ---- 14
 
 module _ (edition : ℕ) (excluded : List ℕ) (place : ℕ) (d l : List ℕ) where
-  pub bad-table : valid_whole l ≡ false → Gives (lent_digest edition excluded place d l) (Refused BadTable) d
+  pub bad-table : valid_whole l ≡ false → Gives (lent_digest edition excluded place d l) (Err BadTable) d
   unfolding from_table
   bad-table v = (rw v, rw v)
 

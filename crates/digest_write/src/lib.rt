@@ -17,7 +17,7 @@ ghost use Rattle.digest_read.specs.Held.{back, held};
 ghost use Rattle.digest_write.specs.Digests.{EntriesFit};
 
 use digest_read::NodeDigest;
-use rules::{Refusal, Written, wire};
+use rules::{Refusal, wire};
 use table::layout;
 
 // What the digest tells of the node in these bytes.
@@ -26,10 +26,9 @@ fn entry_of(node: &[u8]) -> NodeDigest
     ensures { result ≡ held (digest_of_node (decode_node node.now)) }
 {
     let header = table_read::read_header(node);
-    let heartbeat = header.heartbeat;
     NodeDigest {
         number: fields::read_u64(node, layout::NUMBER),
-        heartbeat,
+        heartbeat: header.heartbeat,
         last_gc: header.last_gc,
         max: header.max,
     }
@@ -42,15 +41,12 @@ fn count_written(table: &[u8], excluded: &[u64]) -> usize
 {
     let nodes = fields::byte_at(table, layout::NODE_COUNT);
     let mut count = 0;
-    let mut i = 0;
-    while i < nodes {
+    for i in 0..nodes {
         let number = fields::read_u64(table::node_of(table, i), layout::NUMBER);
         if table_read::is_excluded(excluded, number) {
-            i += 1;
-        } else {
-            count += 1;
-            i += 1;
+            continue;
         }
+        count += 1;
     }
     count
 }
@@ -73,17 +69,14 @@ fn write_entries(table: &[u8], excluded: &[u64], datagram: &mut [u8])
 {
     let nodes = fields::byte_at(table, layout::NODE_COUNT);
     let mut at = 0;
-    let mut i = 0;
-    while i < nodes {
+    for i in 0..nodes {
         let e = entry_of(table::node_of(table, i));
         if table_read::is_excluded(excluded, e.number) {
-            i += 1;
-        } else {
-            let end = at + wire::ENTRY_WIDTH;
-            write_entry(&mut datagram[at..end], e);
-            at = end;
-            i += 1;
+            continue;
         }
+        let end = at + wire::ENTRY_WIDTH;
+        write_entry(&mut datagram[at..end], e);
+        at = end;
     }
 }
 
@@ -132,21 +125,21 @@ fn write_known(
     excluded: &[u64],
     datagram: &mut [u8],
     place: usize,
-) -> Written
+) -> Result<usize, Refusal>
     requires { (valid table.now ≡ true) × (is_edition edition ≡ true) }
     ensures { Gives (write_digest edition excluded.now place (decode table.now) datagram.old)
         result datagram.new }
 {
     if datagram.len() < place {
-        return Written::Refused(Refusal::NoPlace);
+        return Err(Refusal::NoPlace);
     }
     let count = count_written(table, excluded);
     let size = size_for(edition, count);
     if datagram.len() - place < size {
-        return Written::Refused(Refusal::NoPlace);
+        return Err(Refusal::NoPlace);
     }
     store_digest(table, edition, excluded, &mut datagram[place..], count);
-    Written::Bytes(size)
+    Ok(size)
 }
 
 // The digest of a table that is known to be good: 20 for another edition, then as above.
@@ -156,7 +149,7 @@ pub fn write_good(
     excluded: &[u64],
     datagram: &mut [u8],
     place: usize,
-) -> Written
+) -> Result<usize, Refusal>
     requires { valid table.now ≡ true }
     ensures { Gives (write_digest edition excluded.now place (decode table.now) datagram.old)
         result datagram.new }
@@ -164,7 +157,7 @@ pub fn write_good(
     if wire::is_edition(edition) {
         return write_known(table, edition, excluded, datagram, place);
     }
-    Written::Refused(Refusal::BadEdition)
+    Err(Refusal::BadEdition)
 }
 
 // The digest of any lent table, from `place` on in the datagram: 14, then as above.
@@ -174,12 +167,12 @@ pub fn write_digest(
     excluded: &[u64],
     datagram: &mut [u8],
     place: usize,
-) -> Written
+) -> Result<usize, Refusal>
     ensures { Tells written_told (lent_digest edition excluded.now place datagram.old table.now)
         result datagram.new }
 {
     if table_check::check_table(table) {
         return write_good(&table[..layout::AREA], edition, excluded, datagram, place);
     }
-    Written::Refused(Refusal::BadTable)
+    Err(Refusal::BadTable)
 }

@@ -1,6 +1,6 @@
 -- The datagrams of an exchange: what a call says it wrote stands at the front of its datagram. Assumes nothing.
 use Prim.Native.Nat.{ℕ, ◌-◌, ◌≤◌}
-use mathlib.Core.Path.{◌≡◌, refl}
+use mathlib.Core.Path.{◌≡◌, refl, ap, sym}
 use mathlib.Core.Bool.{Bool, ◌&&◌, false, true}
 use mathlib.Core.List.{List}
 use native.Mathlib.Omega.{arith}
@@ -18,10 +18,12 @@ use Rattle.rules.specs.Compute.{all_ops, compute, cut, delta_for, ordered, stale
 use Rattle.rules.specs.Whole.{decode_whole, valid_whole}
 use Rattle.rules.specs.Lent.{from_table, lent_compute, lent_digest}
 use Rattle.rules.specs.declared.Refusal.TheVariants.{BadEdition, BadTable, NoPlace}
-use Rattle.rules.specs.declared.Written.{Written}
-use Rattle.rules.specs.declared.Written.TheVariants as written
-use Rattle.rules.specs.declared.Computed.{Computed}
-use Rattle.rules.specs.declared.Computed.TheVariants as computed
+use Rattle.std.specs.Prelude.{Err, Ok, Result}
+use Rattle.std.specs.Result.{is_err}
+use Rattle.std.proofs.lemmas.Bool.{false≢true}
+use Rattle.rules.proofs.Results.{ok-is}
+use Rattle.rules.specs.declared.Refusal.{Refusal}
+use Rattle.rules.specs.declared.Sent.{Sent}
 use Rattle.rules.proofs.Accepted.{Comes, comes, cut-bytes, refuses, writes}
 
 -- ---- what a call says it wrote stands in its datagram
@@ -36,50 +38,50 @@ from-table P bad rule l b r = go (valid_whole l)
     go false = b
 
 -- bytes at the front of a datagram
-bytes-within : (b d : List ℕ) (n : ℕ) → (write_bytes b 0 d).answer ≡ written.Bytes n → n ≤ length (write_bytes b 0 d).lent
+bytes-within : (b d : List ℕ) (n : ℕ) → (write_bytes b 0 d).answer ≡ Ok n → n ≤ length (write_bytes b 0 d).lent
 bytes-within b d n = go (leb 0 (length d)) (leb (length b) (length d - 0)) refl
   where
-    Out : Bool → Given Written (List ℕ)
-    Out c = pick c (given (written.Bytes (length b)) (put 0 b d)) (given (written.Refused NoPlace) d)
+    Out : Bool → Given (Result ℕ Refusal) (List ℕ)
+    Out c = pick c (given (Ok (length b)) (put 0 b d)) (given (Err NoPlace) d)
 
-    go : (p q : Bool) → leb (length b) (length d - 0) ≡ q → (Out (p && q)).answer ≡ written.Bytes n → n ≤ length (Out (p && q)).lent
+    go : (p q : Bool) → leb (length b) (length d - 0) ≡ q → (Out (p && q)).answer ≡ Ok n → n ≤ length (Out (p && q)).lent
     go true true h e =
-        let k : length b ≡ n = cc in
+        let k : length b ≡ n = ok-is _ _ e in
         let m = leb-true (length b) (length d - 0) h in
         let j = length-put 0 b d (omega arith) in
         omega arith
-    go true false h e = let z : ◌≡◌ {A = ℕ} 0 1 = cc in absurd (omega arith)
-    go false q h e = let z : ◌≡◌ {A = ℕ} 0 1 = cc in absurd (omega arith)
+    go true false h e = absurd (false≢true (sym (ap is_err e)))
+    go false q h e = absurd (false≢true (sym (ap is_err e)))
 
-pub digest-within : (edition : ℕ) (excluded d l : List ℕ) (n : ℕ) → (lent_digest edition excluded 0 d l).answer ≡ written.Bytes n → n ≤ length (lent_digest edition excluded 0 d l).lent
+pub digest-within : (edition : ℕ) (excluded d l : List ℕ) (n : ℕ) → (lent_digest edition excluded 0 d l).answer ≡ Ok n → n ≤ length (lent_digest edition excluded 0 d l).lent
 unfolding write_digest
 digest-within edition excluded d l n =
-    from-table (λ (o : Given Written (List ℕ)). o.answer ≡ written.Bytes n → n ≤ length o.lent) (given (written.Refused BadTable) d) (λ t. write_digest edition excluded 0 t d) l (λ e. let z : ◌≡◌ {A = ℕ} 0 1 = cc in absurd (omega arith))
+    from-table (λ (o : Given (Result ℕ Refusal) (List ℕ)). o.answer ≡ Ok n → n ≤ length o.lent) (given (Err BadTable) d) (λ t. write_digest edition excluded 0 t d) l (λ e. absurd (false≢true (sym (ap is_err e))))
     (known (is_edition edition))
   where
     b : List ℕ
     b = digest_bytes edition (digest_of excluded (decode_whole l).table)
 
-    Out : Bool → Given Written (List ℕ)
-    Out x = pick x (write_bytes b 0 d) (given (written.Refused BadEdition) d)
+    Out : Bool → Given (Result ℕ Refusal) (List ℕ)
+    Out x = pick x (write_bytes b 0 d) (given (Err BadEdition) d)
 
-    known : (x : Bool) → (Out x).answer ≡ written.Bytes n → n ≤ length (Out x).lent
+    known : (x : Bool) → (Out x).answer ≡ Ok n → n ≤ length (Out x).lent
     known true e = bytes-within b d n e
-    known false e = let z : ◌≡◌ {A = ℕ} 0 1 = cc in absurd (omega arith)
+    known false e = absurd (false≢true (sym (ap is_err e)))
 
-pub delta-within : (edition : ℕ) (excluded ties : List ℕ) (mtu : ℕ) (digest d l : List ℕ) (ops bytes : ℕ) → (lent_compute edition excluded ties mtu 0 digest d l).answer ≡ computed.Delta ops bytes → bytes ≤ length (lent_compute edition excluded ties mtu 0 digest d l).lent
+pub delta-within : (edition : ℕ) (excluded ties : List ℕ) (mtu : ℕ) (digest d l : List ℕ) (ops bytes : ℕ) → (lent_compute edition excluded ties mtu 0 digest d l).answer ≡ (Ok (record { ops = ops; bytes = bytes })) → bytes ≤ length (lent_compute edition excluded ties mtu 0 digest d l).lent
 unfolding delta_for
 delta-within edition excluded ties mtu digest d l ops bytes =
-    from-table Out (given (computed.Refused BadTable) d) (λ t. compute edition excluded ties mtu 0 digest t d) l (λ e. let z : ◌≡◌ {A = ℕ} 0 1 = cc in absurd (omega arith)) (go _ (comes edition excluded ties mtu 0 digest (decode_whole l).table d))
+    from-table Out (given (Err BadTable) d) (λ t. compute edition excluded ties mtu 0 digest t d) l (λ e. absurd (false≢true (sym (ap is_err e)))) (go _ (comes edition excluded ties mtu 0 digest (decode_whole l).table d))
   where
-    Out : Given Computed (List ℕ) → Type 0
-    Out o = o.answer ≡ computed.Delta ops bytes → bytes ≤ length o.lent
+    Out : Given (Result Sent Refusal) (List ℕ) → Type 0
+    Out o = o.answer ≡ (Ok (record { ops = ops; bytes = bytes })) → bytes ≤ length o.lent
 
-    go : (o : Given Computed (List ℕ)) → Comes edition excluded ties mtu 0 digest (decode_whole l).table d o → Out o
-    go o (refuses r) e = let z : ◌≡◌ {A = ℕ} 0 1 = cc in absurd (omega arith)
+    go : (o : Given (Result Sent Refusal) (List ℕ)) → Comes edition excluded ties mtu 0 digest (decode_whole l).table d o → Out o
+    go o (refuses r) e = absurd (false≢true (sym (ap is_err e)))
     go o (writes ds rest q h g) e =
         let b = delta_bytes (cut mtu (all_ops (ordered (stale_nodes excluded ds ties (decode_whole l).table)))) in
-        let k : length b ≡ bytes = cc in
+        let k : length b ≡ bytes = ap (λ (s : Sent). s.bytes) (ok-is _ _ e) in
         let m = cut-bytes mtu (all_ops (ordered (stale_nodes excluded ds ties (decode_whole l).table))) in
         let j = length-put 0 b d (omega arith) in
         omega arith

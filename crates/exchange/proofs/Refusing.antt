@@ -20,10 +20,12 @@ use Rattle.rules.specs.Profile.{odd_number}
 use Rattle.rules.specs.Whole.{area_of, decode_whole, valid_whole}
 use Rattle.rules.specs.Lent.{from_table, lent_apply, lent_apply_as, lent_compute, lent_digest}
 use Rattle.rules.specs.declared.Refusal.TheVariants.{BadEdition, BadTable, NoPlace}
-use Rattle.rules.specs.declared.Written.{Written}
-use Rattle.rules.specs.declared.Written.TheVariants as written_as
-use Rattle.rules.specs.declared.Computed.{Computed}
-use Rattle.rules.specs.declared.Applied.TheVariants as applied
+use Rattle.std.specs.Prelude.{Err, Ok, Result}
+use Rattle.std.specs.Result.{is_err}
+use Rattle.std.proofs.lemmas.Bool.{false≢true}
+use Rattle.rules.specs.declared.Refusal.{Refusal}
+use Rattle.rules.specs.declared.Sent.{Sent}
+use Rattle.rules.specs.Results.{done}
 use Rattle.rules.proofs.Accepted.{read-computed, within-mtu}
 use Rattle.rules.proofs.Digests.{read-written}
 use Rattle.table.proofs.Tables.{valid-obeys}
@@ -31,14 +33,10 @@ use Rattle.table.proofs.Wholes.{area-valid}
 use Rattle.profiles.proofs.Reading.{delta-formed}
 use Rattle.profiles.proofs.Sent.{sent-in-form}
 use Rattle.compute.specs.Asking.{asked_of}
-use Rattle.compute.specs.declared.Asked.{Asked}
-use Rattle.compute.specs.declared.Asked.TheVariants as asked
 use Rattle.compute.proofs.Calling.{by-delta, good-table, granted, in-edition}
 use Rattle.exchange.specs.Exchanging.{Lending, after_computing, after_digesting, exchanged_as, lent_answer, rooms_of, three_calls}
 use Rattle.exchange_ask.specs.Asking.{forms_fit, ready_for, ready_on, rooms_for, taking_for, unless_refused}
 use Rattle.exchange_ask.specs.declared.Step.TheVariants.{Applying, Delta, Digest}
-use Rattle.exchange_ask.specs.declared.Ready.TheVariants as ready
-use Rattle.exchange.specs.declared.Exchanged.TheVariants as exchanged
 use Rattle.exchange.proofs.FewNodes.{few-parts}
 
 -- ---- what was asked
@@ -49,10 +47,10 @@ pub record IsReady (g : Lending) (publisher follower : List ℕ) : Type 0 where
   pub known : is_edition g.edition ≡ true
   pub digest_fits : length (digest_bytes g.edition (digest_of g.unasked (decode_whole follower).table)) ≤ length g.digest
   pub formed : forms_fit publisher follower ≡ true
-  pub numbers_good : asked_of g.mtu 0 (length g.delta) (length g.ties) (length (decode_whole publisher).table) ≡ asked.Good
+  pub numbers_good : asked_of g.mtu 0 (length g.delta) (length g.ties) (length (decode_whole publisher).table) ≡ done
   pub places : length (decode_whole publisher).table ≤ length g.answers
 
-pub is-ready : (g : Lending) (publisher follower : List ℕ) → ready_for g.edition g.unasked (rooms_of g) publisher follower ≡ ready.Yes → IsReady g publisher follower
+pub is-ready : (g : Lending) (publisher follower : List ℕ) → ready_for g.edition g.unasked (rooms_of g) publisher follower ≡ done → IsReady g publisher follower
 unfolding ready_for ready_on rooms_for taking_for
 is-ready g publisher follower =
     go (valid_whole follower) refl (valid_whole publisher) refl (is_edition g.edition) refl (leb (length b) (length g.digest)) refl
@@ -66,20 +64,20 @@ is-ready g publisher follower =
         → (v : Bool) → valid_whole publisher ≡ v
         → (k : Bool) → is_edition g.edition ≡ k
         → (d : Bool) → leb (length b) (length g.digest) ≡ d
-        → (n : Asked) → asked_of g.mtu 0 (length g.delta) (length g.ties) (length (decode_whole publisher).table) ≡ n
+        → (n : (Result (Unit {0}) Refusal)) → asked_of g.mtu 0 (length g.delta) (length g.ties) (length (decode_whole publisher).table) ≡ n
         → (x : Bool) → forms_fit publisher follower ≡ x
         → (p : Bool) → leb (length (decode_whole publisher).table) (length g.answers) ≡ p
-        → pick u (pick v (pick k (pick d (unless_refused n (pick x (pick p ready.Yes (ready.No Applying NoPlace)) (ready.No Applying (odd_number (decode_whole follower).kind.profile)))) (ready.No Digest NoPlace)) (ready.No Digest BadEdition)) (ready.No Delta BadTable)) (ready.No Digest BadTable) ≡ ready.Yes
+        → pick u (pick v (pick k (pick d (unless_refused n (pick x (pick p done (Err (record { step = Applying; why = NoPlace }))) (Err (record { step = Applying; why = (odd_number (decode_whole follower).kind.profile) })))) (Err (record { step = Digest; why = NoPlace }))) (Err (record { step = Digest; why = BadEdition }))) (Err (record { step = Delta; why = BadTable }))) (Err (record { step = Digest; why = BadTable })) ≡ done
         → IsReady g publisher follower
-    go true u true v true k true d asked.Good n true x true p e =
+    go true u true v true k true d (Ok _) n true x true p e =
         record { follower_valid = u; publisher_valid = v; known = k; digest_fits = leb-true _ _ d; formed = x; numbers_good = n; places = leb-true _ _ p }
-    go true u true v true k true d asked.Good n true x false p e = let z : ◌≡◌ {A = ℕ} 0 1 = cc in absurd (omega arith)
-    go true u true v true k true d asked.Good n false x p q e = let z : ◌≡◌ {A = ℕ} 0 1 = cc in absurd (omega arith)
-    go true u true v true k true d (asked.Refused r) n x y p q e = let z : ◌≡◌ {A = ℕ} 0 1 = cc in absurd (omega arith)
-    go true u true v true k false d n m x y p q e = let z : ◌≡◌ {A = ℕ} 0 1 = cc in absurd (omega arith)
-    go true u true v false k d f n m x y p q e = let z : ◌≡◌ {A = ℕ} 0 1 = cc in absurd (omega arith)
-    go true u false v k l d f n m x y p q e = let z : ◌≡◌ {A = ℕ} 0 1 = cc in absurd (omega arith)
-    go false u v w k l d f n m x y p q e = let z : ◌≡◌ {A = ℕ} 0 1 = cc in absurd (omega arith)
+    go true u true v true k true d (Ok _) n true x false p e = absurd (false≢true (sym (ap is_err e)))
+    go true u true v true k true d (Ok _) n false x p q e = absurd (false≢true (sym (ap is_err e)))
+    go true u true v true k true d (Err r) n x y p q e = absurd (false≢true (sym (ap is_err e)))
+    go true u true v true k false d n m x y p q e = absurd (false≢true (sym (ap is_err e)))
+    go true u true v false k d f n m x y p q e = absurd (false≢true (sym (ap is_err e)))
+    go true u false v k l d f n m x y p q e = absurd (false≢true (sym (ap is_err e)))
+    go false u v w k l d f n m x y p q e = absurd (false≢true (sym (ap is_err e)))
 
 -- ---- the three calls
 
@@ -97,7 +95,7 @@ module _ (g : Lending) (publisher follower : List ℕ) (r : IsReady g publisher 
   abbrev pub sent : List Op
   sent = delta_for g.unsent g.ties g.mtu ds (decode_whole publisher).table
 
-  pub digest-told : lent_digest g.edition g.unasked 0 g.digest follower ≡ given (written_as.Bytes (length bytes)) told
+  pub digest-told : lent_digest g.edition g.unasked 0 g.digest follower ≡ given (Ok (length bytes)) told
   unfolding from_table write_digest
   digest-told =
       let h = r.digest_fits in
@@ -126,7 +124,7 @@ module _ (g : Lending) (publisher follower : List ℕ) (r : IsReady g publisher 
       let w = within-mtu g.unsent g.ties ds (decode_whole publisher).table ok g.mtu in
       ap read_delta (part-put 0 (delta_bytes sent) g.delta (omega arith)) ∙ read-computed g.unsent g.ties ds (decode_whole publisher).table ok g.mtu n.most
 
-  delta-taken : (lent_apply (part 0 (length (delta_bytes sent)) (put 0 (delta_bytes sent) g.delta)) g.clock g.answers follower).answer ≡ applied.Nodes (length (parts_of sent))
+  delta-taken : (lent_apply (part 0 (length (delta_bytes sent)) (put 0 (delta_bytes sent) g.delta)) g.clock g.answers follower).answer ≡ Ok (length (parts_of sent))
   unfolding lent_apply_as apply
   delta-taken =
       let f = few-parts g.unsent g.ties g.mtu ds (decode_whole publisher).table in
@@ -138,9 +136,9 @@ module _ (g : Lending) (publisher follower : List ℕ) (r : IsReady g publisher 
       rw (r.follower_valid, q, b) refl
 
   -- Nothing is refused.
-  pub ready-done : (three_calls g publisher follower).answer ≡ exchanged.Done (length sent) (length (delta_bytes sent)) (length (parts_of sent))
+  pub ready-done : (three_calls g publisher follower).answer ≡ (Ok (record { ops = (length sent); bytes = (length (delta_bytes sent)); nodes = (length (parts_of sent)) }))
   unfolding three_calls lent_answer
   ready-done =
-      ap (λ (o : Given Written (List ℕ)). (after_digesting g publisher follower o.lent o.answer).answer) digest-told
-      ∙ ap (λ (o : Given Computed (List ℕ)). (after_computing g.clock g.answers follower o.lent o.answer).answer) delta-made
+      ap (λ (o : Given (Result ℕ Refusal) (List ℕ)). (after_digesting g publisher follower o.lent o.answer).answer) digest-told
+      ∙ ap (λ (o : Given (Result Sent Refusal) (List ℕ)). (after_computing g.clock g.answers follower o.lent o.answer).answer) delta-made
       ∙ ap (exchanged_as (length sent) (length (delta_bytes sent))) delta-taken

@@ -6,19 +6,15 @@ use Rattle.fields.specs.Parts.{part}
 use Rattle.rules.specs.Answers.{Told, accepted, refused}
 use Rattle.rules.specs.Given.{Given, given}
 use Rattle.rules.specs.Lent.{TableAndList, lent_digest, lent_compute, lent_apply}
-use Rattle.rules.specs.declared.Written.{Written}
-use Rattle.rules.specs.declared.Written.TheVariants as written
-use Rattle.rules.specs.declared.Computed.{Computed}
-use Rattle.rules.specs.declared.Computed.TheVariants as computed
-use Rattle.rules.specs.declared.Applied.{Applied}
-use Rattle.rules.specs.declared.Applied.TheVariants as applied
+use Rattle.std.specs.Prelude.{Err, Ok, Result}
+use Rattle.exchange.specs.declared.Exchanged.{Exchanged}
+use Rattle.exchange_ask.specs.declared.Stopped.{Stopped}
+use Rattle.rules.specs.declared.DeltaFault.{DeltaFault}
+use Rattle.rules.specs.declared.Refusal.{Refusal}
+use Rattle.rules.specs.declared.Sent.{Sent}
 use Rattle.exchange_ask.specs.Asking.{Rooms, rooms, ready_for}
 use Rattle.exchange_ask.specs.declared.Step.{Step}
 use Rattle.exchange_ask.specs.declared.Step.TheVariants.{Digest, Delta, Applying}
-use Rattle.exchange_ask.specs.declared.Ready.{Ready}
-use Rattle.exchange_ask.specs.declared.Ready.TheVariants as ready
-use Rattle.exchange.specs.declared.Exchanged.{Exchanged}
-use Rattle.exchange.specs.declared.Exchanged.TheVariants as exchanged
 
 -- ---- what is lent
 
@@ -67,20 +63,20 @@ abbrev pub all_three : (follower delta answers : Bytes) → AnswerLent
 all_three follower delta answers = record { follower = follower; delta = delta; answers = answers }
 
 -- what applying answers to a delta of so many operations and bytes
-abbrev pub exchanged_as : (ops bytes : ℕ) (applied : Applied) → Exchanged
-exchanged_as ops bytes (applied.Nodes n) = exchanged.Done ops bytes n
-exchanged_as ops bytes (applied.Refused r at) = exchanged.Refused Applying r
+abbrev pub exchanged_as : (ops bytes : ℕ) (applied : (Result ℕ DeltaFault)) → (Result Exchanged Stopped)
+exchanged_as ops bytes (Ok n) = (Ok (record { ops = ops; bytes = bytes; nodes = n }))
+exchanged_as ops bytes (Err f) = (Err (record { step = Applying; why = f.why }))
 
-abbrev pub after_applying : (ops bytes : ℕ) (delta : Bytes) (applied : Given Applied TableAndList) → Given Exchanged AnswerLent
+abbrev pub after_applying : (ops bytes : ℕ) (delta : Bytes) (applied : Given (Result ℕ DeltaFault) TableAndList) → Given (Result Exchanged Stopped) AnswerLent
 after_applying ops bytes delta o = given (exchanged_as ops bytes o.answer) (all_three o.lent.table delta o.lent.list)
 
 -- the delta is applied, where there is one
-abbrev pub after_computing : (clock : ℕ) (answers follower delta : Bytes) (computed : Computed) → Given Exchanged AnswerLent
-after_computing clock answers follower delta (computed.Delta ops bytes) = after_applying ops bytes delta (lent_apply (part 0 bytes delta) clock answers follower)
-after_computing clock answers follower delta (computed.Refused r) = given (exchanged.Refused Delta r) (all_three follower delta answers)
+abbrev pub after_computing : (clock : ℕ) (answers follower delta : Bytes) (computed : (Result Sent Refusal)) → Given (Result Exchanged Stopped) AnswerLent
+after_computing clock answers follower delta (Ok s) = after_applying s.ops s.bytes delta (lent_apply (part 0 s.bytes delta) clock answers follower)
+after_computing clock answers follower delta (Err r) = given (Err (record { step = Delta; why = r })) (all_three follower delta answers)
 
 -- the publisher's delta for a digest, applied
-unfoldable pub lent_answer : (edition : ℕ) (unsent ties : List ℕ) (mtu clock : ℕ) (told delta answers publisher follower : Bytes) → Given Exchanged AnswerLent
+unfoldable pub lent_answer : (edition : ℕ) (unsent ties : List ℕ) (mtu clock : ℕ) (told delta answers publisher follower : Bytes) → Given (Result Exchanged Stopped) AnswerLent
 lent_answer edition unsent ties mtu clock told delta answers publisher follower =
     after_computing clock answers follower
     (lent_compute edition unsent ties mtu 0 told delta publisher).lent
@@ -88,17 +84,17 @@ lent_answer edition unsent ties mtu clock told delta answers publisher follower 
 
 -- ---- the three calls
 
-abbrev pub with_digest : (digest : Bytes) (answered : Given Exchanged AnswerLent) → Given Exchanged ExchangeLent
+abbrev pub with_digest : (digest : Bytes) (answered : Given (Result Exchanged Stopped) AnswerLent) → Given (Result Exchanged Stopped) ExchangeLent
 with_digest digest o = given o.answer (all_four o.lent.follower digest o.lent.delta o.lent.answers)
 
 -- the publisher answers the digest, where there is one
-abbrev pub after_digesting : (lending : Lending) (publisher follower digest : Bytes) (written : Written) → Given Exchanged ExchangeLent
-after_digesting g publisher follower digest (written.Bytes n) =
+abbrev pub after_digesting : (lending : Lending) (publisher follower digest : Bytes) (written : (Result ℕ Refusal)) → Given (Result Exchanged Stopped) ExchangeLent
+after_digesting g publisher follower digest (Ok n) =
     with_digest digest (lent_answer g.edition g.unsent g.ties g.mtu g.clock (part 0 n digest) g.delta g.answers publisher follower)
-after_digesting g publisher follower digest (written.Refused r) = given (exchanged.Refused Digest r) (all_four follower digest g.delta g.answers)
+after_digesting g publisher follower digest (Err r) = given (Err (record { step = Digest; why = r })) (all_four follower digest g.delta g.answers)
 
 -- one after the other; the first that is refused would end it
-unfoldable pub three_calls : (lending : Lending) (publisher follower : Bytes) → Given Exchanged ExchangeLent
+unfoldable pub three_calls : (lending : Lending) (publisher follower : Bytes) → Given (Result Exchanged Stopped) ExchangeLent
 three_calls g publisher follower =
     after_digesting g publisher follower
     (lent_digest g.edition g.unasked 0 g.digest follower).lent
@@ -107,11 +103,11 @@ three_calls g publisher follower =
 -- ---- the whole
 
 -- a refused exchange leaves everything as it was
-abbrev pub after_asking : (lending : Lending) (publisher follower : Bytes) (ready : Ready) → Given Exchanged ExchangeLent
-after_asking g publisher follower ready.Yes = three_calls g publisher follower
-after_asking g publisher follower (ready.No s r) = given (exchanged.Refused s r) (all_four follower g.digest g.delta g.answers)
+abbrev pub after_asking : (lending : Lending) (publisher follower : Bytes) (ready : (Result (Unit {0}) Stopped)) → Given (Result Exchanged Stopped) ExchangeLent
+after_asking g publisher follower (Ok _) = three_calls g publisher follower
+after_asking g publisher follower (Err ss) = given (Err (record { step = ss.step; why = ss.why })) (all_four follower g.digest g.delta g.answers)
 
-unfoldable pub lent_exchange : (lending : Lending) (publisher follower : Bytes) → Given Exchanged ExchangeLent
+unfoldable pub lent_exchange : (lending : Lending) (publisher follower : Bytes) → Given (Result Exchanged Stopped) ExchangeLent
 lent_exchange g publisher follower = after_asking g publisher follower (ready_for g.edition g.unasked (rooms_of g) publisher follower)
 
 -- ---- what is told of it
@@ -122,6 +118,6 @@ step_code Delta = 2
 step_code Applying = 3
 
 -- The number and the values of an answer. A refusal tells the step that it belongs to.
-unfoldable pub exchanged_told : (answer : Exchanged) → Told
-exchanged_told (exchanged.Done ops bytes nodes) = accepted (ops ∷ bytes ∷ nodes ∷ [])
-exchanged_told (exchanged.Refused s r) = refused r (step_code s ∷ [])
+unfoldable pub exchanged_told : (answer : (Result Exchanged Stopped)) → Told
+exchanged_told (Ok x) = accepted (x.ops ∷ x.bytes ∷ x.nodes ∷ [])
+exchanged_told (Err ss) = refused ss.why (step_code ss.step ∷ [])

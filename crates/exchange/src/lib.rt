@@ -7,24 +7,15 @@ ghost use Rattle.rules.specs.Given.{Gives, Tells};
 ghost use Rattle.rules.specs.Whole.{valid_whole};
 ghost use Rattle.exchange.specs.Exchanging.{all_four, all_three, exchanged_told, lending, lent_answer, lent_exchange, three_calls};
 
-use exchange_ask::{Ready, Step};
-use rules::{Applied, Computed, Refusal, Written};
+use exchange_ask::{Step, Stopped};
 use table::layout;
 
-// What an exchange came to.
+// What an exchange did: the operations and bytes of its delta, and how many nodes answered.
 #[derive(Clone, Copy)]
-pub enum Exchanged {
-    // The delta was applied: its operations, its bytes, and how many nodes answered.
-    Done {
-        ops: usize,
-        bytes: usize,
-        nodes: usize,
-    },
-    // Nothing was written.
-    Refused {
-        step: Step,
-        why: Refusal,
-    },
+pub struct Exchanged {
+    pub ops: usize,
+    pub bytes: usize,
+    pub nodes: usize,
 }
 
 // The publisher's delta for a digest, applied to the follower's table.
@@ -39,14 +30,14 @@ fn answer_digest(
     clock: u64,
     delta: &mut [u8],
     answers: &mut [u8],
-) -> Exchanged
+) -> Result<Exchanged, Stopped>
     requires { valid_whole publisher.now ≡ true }
     ensures { Gives
         (lent_answer edition unsent.now ties.now mtu clock
         told.now delta.old answers.old publisher.now follower.old)
         result (all_three follower.new delta.new answers.new) }
 {
-    let computed = compute::compute_good(
+    let sent = compute::compute_good(
         &publisher[..layout::AREA],
         edition,
         told,
@@ -55,23 +46,21 @@ fn answer_digest(
         ties,
         delta,
         0,
-    );
-    match computed {
-        Computed::Delta { ops, bytes } => {
-            let applied = apply::apply(follower, &delta[..bytes], clock, answers);
-            match applied {
-                Applied::Nodes(nodes) => Exchanged::Done { ops, bytes, nodes },
-                Applied::Refused { why, at: _ } => Exchanged::Refused {
-                    step: Step::Applying,
-                    why,
-                },
-            }
-        }
-        Computed::Refused(why) => Exchanged::Refused {
-            step: Step::Delta,
-            why,
-        },
-    }
+    )
+    .map_err(|why| Stopped {
+        step: Step::Delta,
+        why,
+    })?;
+    let applied = apply::apply(follower, &delta[..sent.bytes], clock, answers);
+    let nodes = applied.map_err(|fault| Stopped {
+        step: Step::Applying,
+        why: fault.why,
+    })?;
+    Ok(Exchanged {
+        ops: sent.ops,
+        bytes: sent.bytes,
+        nodes,
+    })
 }
 
 // The three calls on two good tables. Where the exchange is ready none of them is refused (proofs/Refusing).
@@ -87,7 +76,7 @@ fn exchange_good(
     digest: &mut [u8],
     delta: &mut [u8],
     answers: &mut [u8],
-) -> Exchanged
+) -> Result<Exchanged, Stopped>
     requires { (valid_whole publisher.now ≡ true) × (valid_whole follower.old ≡ true) }
     ensures { Gives
         (three_calls
@@ -97,24 +86,22 @@ fn exchange_good(
         result (all_four follower.new digest.new delta.new answers.new) }
 {
     let written = digest_write::write_good(&follower[..layout::AREA], edition, unasked, digest, 0);
-    match written {
-        Written::Bytes(n) => answer_digest(
-            publisher,
-            follower,
-            edition,
-            &digest[..n],
-            mtu,
-            unsent,
-            ties,
-            clock,
-            delta,
-            answers,
-        ),
-        Written::Refused(why) => Exchanged::Refused {
-            step: Step::Digest,
-            why,
-        },
-    }
+    let n = written.map_err(|why| Stopped {
+        step: Step::Digest,
+        why,
+    })?;
+    answer_digest(
+        publisher,
+        follower,
+        edition,
+        &digest[..n],
+        mtu,
+        unsent,
+        ties,
+        clock,
+        delta,
+        answers,
+    )
 }
 
 // One exchange, with the digest in one edition at both ends. The digest leaves out the nodes `unasked`, the delta the nodes `unsent`; each stands at the front
@@ -133,7 +120,7 @@ pub fn exchange(
     digest: &mut [u8],
     delta: &mut [u8],
     answers: &mut [u8],
-) -> Exchanged
+) -> Result<Exchanged, Stopped>
     ensures { Tells exchanged_told
         (lent_exchange
         (lending edition unasked.now unsent.now ties.now mtu clock
@@ -141,7 +128,7 @@ pub fn exchange(
         publisher.now follower.old)
         result (all_four follower.new digest.new delta.new answers.new) }
 {
-    let asked = exchange_ask::ask(
+    exchange_ask::ask(
         publisher,
         follower,
         edition,
@@ -151,11 +138,8 @@ pub fn exchange(
         digest.len(),
         delta.len(),
         answers.len(),
-    );
-    match asked {
-        Ready::Yes => exchange_good(
-            publisher, follower, edition, mtu, unasked, unsent, ties, clock, digest, delta, answers,
-        ),
-        Ready::No { step, why } => Exchanged::Refused { step, why },
-    }
+    )?;
+    exchange_good(
+        publisher, follower, edition, mtu, unasked, unsent, ties, clock, digest, delta, answers,
+    )
 }

@@ -13,46 +13,46 @@ use Rattle.rules.specs.declared.Profile.{Profile}
 use Rattle.rules.specs.declared.Refusal.{Refusal}
 use Rattle.rules.specs.declared.Refusal.TheVariants.{BadEdition, BadTable, NoPlace}
 use Rattle.compute.specs.Asking.{asked_of}
-use Rattle.compute.specs.declared.Asked.TheVariants as asked
+use Rattle.std.specs.Prelude.{Err, Result}
+use Rattle.exchange_ask.specs.declared.Stopped.{Stopped}
+use Rattle.rules.specs.Results.{done}
 use Rattle.exchange_ask.specs.Asking.{Rooms, forms_fit, ready_for, ready_on, rooms_for, taking_for}
 use Rattle.exchange_ask.specs.declared.Step.TheVariants.{Applying, Delta, Digest}
-use Rattle.exchange_ask.specs.declared.Ready.{Ready}
-use Rattle.exchange_ask.specs.declared.Ready.TheVariants as ready
 
 module _ (edition : ℕ) (unasked : List ℕ) (k : Rooms) (profile : Profile) (formed : Bool) (publisher follower : Table) (size : ℕ) (is : size ≡ length (digest_bytes edition (digest_of unasked follower))) where
-  pub no-digest-room : k.digest < size → ready.No Digest NoPlace ≡ rooms_for edition unasked k profile formed publisher follower
+  pub no-digest-room : k.digest < size → (Err (record { step = Digest; why = NoPlace })) ≡ rooms_for edition unasked k profile formed publisher follower
   unfolding rooms_for
   no-digest-room h = let d = lt-leb size k.digest h in rw (sym is, d) refl
 
   module _ (fits : size ≤ k.digest) (nodes : ℕ) (are : nodes ≡ length publisher) where
-    pub no-delta : (r : Refusal) → asked_of k.mtu 0 k.delta k.ties nodes ≡ asked.Refused r → ready.No Delta r ≡ rooms_for edition unasked k profile formed publisher follower
+    pub no-delta : (r : Refusal) → asked_of k.mtu 0 k.delta k.ties nodes ≡ Err r → (Err (record { step = Delta; why = r })) ≡ rooms_for edition unasked k profile formed publisher follower
     unfolding rooms_for
     no-delta r e = let d = le-leb size k.digest fits in rw (sym is, d, sym are, e) refl
 
-    module _ (good : asked_of k.mtu 0 k.delta k.ties nodes ≡ asked.Good) where
-      pub asked-all : (r : Ready) → r ≡ taking_for profile formed k.answers nodes → r ≡ rooms_for edition unasked k profile formed publisher follower
+    module _ (good : asked_of k.mtu 0 k.delta k.ties nodes ≡ done) where
+      pub asked-all : (r : Result (Unit {0}) Stopped) → r ≡ taking_for profile formed k.answers nodes → r ≡ rooms_for edition unasked k profile formed publisher follower
       unfolding rooms_for
       asked-all r e = e ∙ (let d = le-leb size k.digest fits in rw (sym is, d, sym are, good) refl)
 
 -- ---- 17 or 19, 8 of applying
 
 module _ (profile : Profile) (answers nodes : ℕ) where
-  pub taken : (f : Bool) → f ≡ true → nodes ≤ answers → ready.Yes ≡ taking_for profile f answers nodes
+  pub taken : (f : Bool) → f ≡ true → nodes ≤ answers → done ≡ taking_for profile f answers nodes
   unfolding taking_for
   taken f e h = let a = le-leb nodes answers h in rw (e, a) refl
 
-  pub no-answer-room : (f : Bool) → f ≡ true → answers < nodes → ready.No Applying NoPlace ≡ taking_for profile f answers nodes
+  pub no-answer-room : (f : Bool) → f ≡ true → answers < nodes → (Err (record { step = Applying; why = NoPlace })) ≡ taking_for profile f answers nodes
   unfolding taking_for
   no-answer-room f e h = let a = lt-leb nodes answers h in rw (e, a) refl
 
-  pub out-of-form : (r : Refusal) → r ≡ odd_number profile → (f : Bool) → f ≡ false → ready.No Applying r ≡ taking_for profile f answers nodes
+  pub out-of-form : (r : Refusal) → r ≡ odd_number profile → (f : Bool) → f ≡ false → (Err (record { step = Applying; why = r })) ≡ taking_for profile f answers nodes
   unfolding taking_for
-  out-of-form r o f e = ap (ready.No Applying) o ∙ rw e refl
+  out-of-form r o f e = ap (λ (r : Refusal). Err (record { step = Applying; why = r })) o ∙ rw e refl
 
 -- ---- 20
 
 module _ (edition : ℕ) (unasked : List ℕ) (k : Rooms) (profile : Profile) (formed : Bool) (publisher follower : Table) where
-  pub no-edition : is_edition edition ≡ false → ready.No Digest BadEdition ≡ ready_on edition unasked k profile formed publisher follower
+  pub no-edition : is_edition edition ≡ false → (Err (record { step = Digest; why = BadEdition })) ≡ ready_on edition unasked k profile formed publisher follower
   unfolding ready_on
   no-edition e = rw e refl
 
@@ -63,12 +63,12 @@ module _ (edition : ℕ) (unasked : List ℕ) (k : Rooms) (profile : Profile) (f
 -- ---- 14 first
 
 module _ (edition : ℕ) (unasked : List ℕ) (k : Rooms) (publisher follower : List ℕ) where
-  pub follower-bad : valid_whole follower ≡ false → ready.No Digest BadTable ≡ ready_for edition unasked k publisher follower
+  pub follower-bad : valid_whole follower ≡ false → (Err (record { step = Digest; why = BadTable })) ≡ ready_for edition unasked k publisher follower
   unfolding ready_for
   follower-bad f = rw f refl
 
   module _ (f : valid_whole follower ≡ true) where
-    pub publisher-bad : valid_whole publisher ≡ false → ready.No Delta BadTable ≡ ready_for edition unasked k publisher follower
+    pub publisher-bad : valid_whole publisher ≡ false → (Err (record { step = Delta; why = BadTable })) ≡ ready_for edition unasked k publisher follower
     unfolding ready_for
     publisher-bad p = rw (f, p) refl
 

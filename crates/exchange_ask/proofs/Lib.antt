@@ -1,1 +1,2 @@
 mod Asking
+pub mod Mapped

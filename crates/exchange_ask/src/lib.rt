@@ -9,7 +9,6 @@ ghost use Rattle.rules.specs.Whole.{decode_whole, valid_whole};
 ghost use Rattle.table.specs.Fits.{LaidTable};
 ghost use Rattle.exchange_ask.specs.Asking.{ready_for, ready_on, rooms, rooms_for, taking_for};
 
-use compute::Asked;
 use rules::{Profile, Refusal, wire};
 use table::layout;
 
@@ -21,11 +20,11 @@ pub enum Step {
     Applying,
 }
 
-// Whether an exchange can go ahead.
+// Why an exchange is not done: which of its calls refuses, and with what.
 #[derive(Clone, Copy)]
-pub enum Ready {
-    Yes,
-    No { step: Step, why: Refusal },
+pub struct Stopped {
+    pub step: Step,
+    pub why: Refusal,
 }
 
 // Whether the records of a good publisher are in the form of a follower's profile. They are looked at only where the profiles differ and the follower's is
@@ -40,28 +39,29 @@ fn forms_fit(publisher: &[u8], profile: Profile) -> bool
     }
     match profile {
         Profile::Free => true,
-        Profile::Meter => profile_check::check_forms(profile, &publisher[..layout::AREA]),
-        Profile::Shared => profile_check::check_forms(profile, &publisher[..layout::AREA]),
+        Profile::Meter | Profile::Shared => {
+            profile_check::check_forms(profile, &publisher[..layout::AREA])
+        }
     }
 }
 
 // What applying would ask: 17 or 19, then 8 for the answers. A place for each node of the publisher's table is enough, as the delta has no more.
-fn ask_taking(profile: Profile, formed: bool, answers: usize, nodes: usize) -> Ready
+fn ask_taking(profile: Profile, formed: bool, answers: usize, nodes: usize) -> Result<(), Stopped>
     ensures { result ≡ taking_for profile formed answers nodes }
 {
-    if formed {
-        if answers < nodes {
-            return Ready::No {
-                step: Step::Applying,
-                why: Refusal::NoPlace,
-            };
-        }
-        return Ready::Yes;
+    if !formed {
+        return Err(Stopped {
+            step: Step::Applying,
+            why: delta_form::odd_number(profile),
+        });
     }
-    Ready::No {
-        step: Step::Applying,
-        why: delta_form::odd_number(profile),
+    if answers < nodes {
+        return Err(Stopped {
+            step: Step::Applying,
+            why: Refusal::NoPlace,
+        });
     }
+    Ok(())
 }
 
 // Of good tables, an MTU, so many ties, bytes of the two datagrams and places for answers: 8 for the digest, 7, 8, 15 for the delta, then what applying asks.
@@ -77,25 +77,22 @@ fn ask_rooms(
     answers: usize,
     profile: Profile,
     formed: bool,
-) -> Ready
+) -> Result<(), Stopped>
     requires { LaidTable publisher.now × LaidTable follower.now }
     ensures { result ≡ rooms_for edition unasked.now (rooms mtu ties digest delta answers) profile formed
         (decode publisher.now) (decode follower.now) }
 {
     if digest < digest_write::digest_size(follower, edition, unasked) {
-        return Ready::No {
+        return Err(Stopped {
             step: Step::Digest,
             why: Refusal::NoPlace,
-        };
+        });
     }
     let nodes = fields::byte_at(publisher, layout::NODE_COUNT);
-    let asked = compute::ask(mtu, 0, delta, ties, nodes);
-    if let Asked::Refused(why) = asked {
-        return Ready::No {
-            step: Step::Delta,
-            why,
-        };
-    }
+    compute::ask(mtu, 0, delta, ties, nodes).map_err(|why| Stopped {
+        step: Step::Delta,
+        why,
+    })?;
     ask_taking(profile, formed, answers, nodes)
 }
 
@@ -112,21 +109,20 @@ fn ask_good(
     answers: usize,
     profile: Profile,
     formed: bool,
-) -> Ready
+) -> Result<(), Stopped>
     requires { LaidTable publisher.now × LaidTable follower.now }
     ensures { result ≡ ready_on edition unasked.now (rooms mtu ties digest delta answers) profile formed
         (decode publisher.now) (decode follower.now) }
 {
-    if wire::is_edition(edition) {
-        return ask_rooms(
-            publisher, follower, edition, unasked, mtu, ties, digest, delta, answers, profile,
-            formed,
-        );
+    if !wire::is_edition(edition) {
+        return Err(Stopped {
+            step: Step::Digest,
+            why: Refusal::BadEdition,
+        });
     }
-    Ready::No {
-        step: Step::Digest,
-        why: Refusal::BadEdition,
-    }
+    ask_rooms(
+        publisher, follower, edition, unasked, mtu, ties, digest, delta, answers, profile, formed,
+    )
 }
 
 // Of any bytes: 14 first, of the follower's table and of the publisher's.
@@ -140,34 +136,34 @@ pub fn ask(
     digest: usize,
     delta: usize,
     answers: usize,
-) -> Ready
+) -> Result<(), Stopped>
     ensures { result ≡ ready_for edition unasked.now (rooms mtu ties digest delta answers) publisher.now follower.now }
 {
-    if table_check::check_table(follower) {
-        if table_check::check_table(publisher) {
-            let profile = profile_check::profile_of(follower);
-            let formed = forms_fit(publisher, profile);
-            return ask_good(
-                &publisher[..layout::AREA],
-                &follower[..layout::AREA],
-                edition,
-                unasked,
-                mtu,
-                ties,
-                digest,
-                delta,
-                answers,
-                profile,
-                formed,
-            );
-        }
-        return Ready::No {
+    if !table_check::check_table(follower) {
+        return Err(Stopped {
+            step: Step::Digest,
+            why: Refusal::BadTable,
+        });
+    }
+    if !table_check::check_table(publisher) {
+        return Err(Stopped {
             step: Step::Delta,
             why: Refusal::BadTable,
-        };
+        });
     }
-    Ready::No {
-        step: Step::Digest,
-        why: Refusal::BadTable,
-    }
+    let profile = profile_check::profile_of(follower);
+    let formed = forms_fit(publisher, profile);
+    ask_good(
+        &publisher[..layout::AREA],
+        &follower[..layout::AREA],
+        edition,
+        unasked,
+        mtu,
+        ties,
+        digest,
+        delta,
+        answers,
+        profile,
+        formed,
+    )
 }

@@ -4,14 +4,15 @@ use Prim.Native.Nat.{ℕ, zero, suc, ◌+◌, ◌*◌, ◌/◌, ◌%◌, ◌^◌
 use mathlib.Core.Path.{◌≡◌, refl, ap, ap₂, sym, ◌∙◌, subst}
 use mathlib.Core.List.{List, [], ◌∷◌, ◌++◌}
 use native.Mathlib.Omega.{arith}
-use native.Mathlib.Nat.{div-lt_iff_lt-mul, div-add-mod', pow-suc, pow-succ', zero-add, suc-add, mul-one, mul_assoc, div-one, div-div-eq-div-mul}
+use native.Mathlib.Nat.{div-lt_iff_lt-mul, div-add-mod', pow-suc, zero-add, mul-one, mul_assoc, div-one, div-div-eq-div-mul}
 use lib.Dec.{lit<}
 use lib.ListN.{length, take, drop, get_or}
+use Rattle.std.specs.Int.{w64, from_le_bytes, to_le_bytes, bytes_low_first, byte_at}
 use Rattle.fields.specs.Choice.{here, later}
 use Rattle.fields.specs.Numbers.{nat_of, bytes_of, AreBytes}
-use Rattle.fields.specs.Parts.{part, put}
+use Rattle.fields.specs.Parts.{part}
 use Rattle.fields.proofs.Choice.{in_take, in-drop, at_in}
-use Rattle.fields.proofs.Parts.{part-cons, part-add, put-behind, length_part}
+use Rattle.fields.proofs.Parts.{part-cons, part-add, length_part}
 
 -- ---- a list of bytes
 
@@ -74,14 +75,6 @@ nat-append (x ∷ xs) ys =
     ap (λ (k : ℕ). nat_of ys * k) (pow-suc 256 (length xs)) ∙ sym (mul_assoc (nat_of ys) (256 ^ length xs) 256) in
     rw (nat-append xs ys, e) (omega arith)
 
-pub bytes-add : (n m v : ℕ) → bytes_of (n + m) v ≡ bytes_of n v ++ bytes_of m (v / 256 ^ n)
-unfolding bytes_of
-bytes-add zero m v = ap₂ bytes_of (zero-add m) (sym (div-one v))
-bytes-add (suc n) m v =
-    let e : v / 256 / 256 ^ n ≡ v / 256 ^ suc n = div-div-eq-div-mul v 256 (256 ^ n) ∙ ap (λ (k : ℕ). v / k) (sym (pow-succ' 256 n)) in
-    ap (λ (k : ℕ). bytes_of k v) (suc-add n m)
-    ∙ ap (λ (r : List ℕ). v % 256 ∷ r) (bytes-add n m (v / 256) ∙ ap (λ (k : ℕ). bytes_of n (v / 256) ++ bytes_of m k) e)
-
 -- ---- numbers in a list
 
 pub nat-add : (at n m : ℕ) (l : List ℕ) → at + n ≤ length l → nat_of (part at (n + m) l) ≡ nat_of (part (at + n) m l) * 256 ^ n + nat_of (part at n l)
@@ -89,15 +82,6 @@ nat-add at n m l h =
     ap nat_of (part-add at n m l)
     ∙ nat-append (part at n l) (part (at + n) m l)
     ∙ ap (λ (k : ℕ). nat_of (part (at + n) m l) * 256 ^ k + nat_of (part at n l)) (length_part at n l h)
-
--- a number put in two pieces
-pub put-bytes : (at n m v : ℕ) (l : List ℕ) → at + (n + m) ≤ length l → put (at + n) (bytes_of m (v / 256 ^ n)) (put at (bytes_of n v) l) ≡ put at (bytes_of (n + m) v) l
-put-bytes at n m v l h =
-    let e : length (bytes_of n v) ≡ n = length-bytes_of n v in
-    let f : length (bytes_of m (v / 256 ^ n)) ≡ m = length-bytes_of m (v / 256 ^ n) in
-    ap (λ (k : ℕ). put (at + k) (bytes_of m (v / 256 ^ n)) (put at (bytes_of n v) l)) (sym e)
-    ∙ put-behind at (bytes_of n v) (bytes_of m (v / 256 ^ n)) l (rw (e, f) h)
-    ∙ ap (λ (r : List ℕ). put at r l) (sym (bytes-add n m v))
 
 -- the number of n bytes from `at` is below 256 ^ n
 pub nat-part : (at n : ℕ) (l : List ℕ) → AreBytes l → at + n ≤ length l → nat_of (part at n l) < 256 ^ n
@@ -116,3 +100,37 @@ nat-step s j k h = rw (part-cons s j k h)
 pub nat-one : (s : List ℕ) (at : ℕ) → at < length s → nat_of (part at 1 s) ≡ get_or s at 0
 unfolding nat_of part
 nat-one s at h = nat-step s at 0 h ∙ zero-add (get_or s at 0)
+
+pub nat_two : (s : List ℕ) (at : ℕ) → at + 2 ≤ length s → nat_of (part at 2 s) ≡ get_or s (at + 1) 0 * 256 + get_or s at 0
+nat_two s at h = omega (arith, nat-add at 1 1 s (omega arith), nat-one s at (omega arith), nat-one s (at + 1) (omega arith))
+
+-- ---- std's words for the same
+
+-- what holds of each n numbers holds of a list of n
+abbrev pub each : (n : ℕ) (P : List ℕ → Type 0) → Type 0
+each zero P = P []
+each (suc n) P = (a : ℕ) → each n (λ l. P (a ∷ l))
+
+pub each-of : (n : ℕ) (P : List ℕ → Type 0) → each n P → (l : List ℕ) → length l ≡ n → P l
+each-of zero P h [] e = h
+each-of zero P h (a ∷ l) e = absurd (omega arith)
+each-of (suc n) P h [] e = absurd (omega arith)
+each-of (suc n) P h (a ∷ l) e = each-of n (λ r. P (a ∷ r)) (h a) l (omega arith)
+
+pub nat-eight : (bs : List ℕ) → length bs ≡ 8 → from_le_bytes w64 bs ≡ nat_of bs
+unfolding nat_of
+nat-eight = each-of 8 (λ bs. from_le_bytes w64 bs ≡ nat_of bs) (λ a b c d e f g h. omega arith)
+
+low_bytes : (k i v : ℕ) → bytes_low_first i k v ≡ bytes_of k (v / 256 ^ i)
+unfolding bytes_of
+low_bytes zero i v = refl
+low_bytes (suc k) i v =
+    ap₂ (λ (b : ℕ) (r : List ℕ). b ∷ r) (this i)
+    (low_bytes k (suc i) v ∙ ap (bytes_of k) (ap (λ (m : ℕ). v / m) (pow-suc 256 i) ∙ sym (div-div-eq-div-mul v (256 ^ i) 256)))
+  where
+    this : (j : ℕ) → byte_at j v ≡ v / 256 ^ j % 256
+    this zero = ap (λ (m : ℕ). m % 256) (sym (div-one v))
+    this (suc j) = refl
+
+pub bytes-eight : (v : ℕ) → to_le_bytes w64 v ≡ bytes_of 8 v
+bytes-eight v = low_bytes 8 0 v ∙ ap (bytes_of 8) (div-one v)

@@ -11,7 +11,7 @@ use lib.Dec.{eqb, ltb}
 use borrow.Author.Tests.{ltb-true, ltb-false, eqb-true, eqb-false, lt-ltb, le-ltb, eq-eqb, ne_eqb}
 use Rattle.fields.specs.Choice.{pick}
 use Rattle.fields.specs.Order.{same_bytes, less_bytes, order_of, starts_with}
-use Rattle.fields.specs.declared.Order.TheVariants.{Less, Same, More}
+use Rattle.std.specs.declared.cmp.Ordering.TheVariants.{Less, Equal, Greater}
 use Rattle.fields.proofs.Choice.{pick_true, pick-false, same_test}
 
 -- ---- equal
@@ -146,26 +146,26 @@ less-same j k e = ne_same j k (less_other j k e)
 -- ---- which of the three
 
 module _ (j k : List ℕ) where
-  pub same-order : same_bytes j k ≡ true → order_of j k ≡ Same
+  pub same-order : same_bytes j k ≡ true → order_of j k ≡ Equal
   unfolding order_of
-  same-order e = pick_true (same_bytes j k) Same (pick (less_bytes j k) Less More) e
+  same-order e = pick_true (same_bytes j k) Equal (pick (less_bytes j k) Less Greater) e
 
   pub less-order : less_bytes j k ≡ true → order_of j k ≡ Less
   unfolding order_of
   less-order e =
-      pick-false (same_bytes j k) Same (pick (less_bytes j k) Less More) (less-same j k e) ∙ pick_true (less_bytes j k) Less More e
+      pick-false (same_bytes j k) Equal (pick (less_bytes j k) Less Greater) (less-same j k e) ∙ pick_true (less_bytes j k) Less Greater e
 
-  pub more-order : less_bytes k j ≡ true → order_of j k ≡ More
+  pub more-order : less_bytes k j ≡ true → order_of j k ≡ Greater
   unfolding order_of
   more-order e =
-      pick-false (same_bytes j k) Same (pick (less_bytes j k) Less More) (same-swap j k ∙ less-same k j e)
-      ∙ pick-false (less_bytes j k) Less More (less-not k j e)
+      pick-false (same_bytes j k) Equal (pick (less_bytes j k) Less Greater) (same-swap j k ∙ less-same k j e)
+      ∙ pick-false (less_bytes j k) Less Greater (less-not k j e)
 
-  pub order_same : order_of j k ≡ Same → same_bytes j k ≡ true
+  pub order_same : order_of j k ≡ Equal → same_bytes j k ≡ true
   unfolding order_of
   order_same e = go (same_bytes j k) (less_bytes j k) e
     where
-      go : (s t : Bool) → pick s Same (pick t Less More) ≡ Same → s ≡ true
+      go : (s t : Bool) → pick s Equal (pick t Less Greater) ≡ Equal → s ≡ true
       go true t e = refl
       go false true e = cc
       go false false e = cc
@@ -174,23 +174,23 @@ module _ (j k : List ℕ) where
   unfolding order_of
   order-less e = go (same_bytes j k) (less_bytes j k) e
     where
-      go : (s t : Bool) → pick s Same (pick t Less More) ≡ Less → t ≡ true
+      go : (s t : Bool) → pick s Equal (pick t Less Greater) ≡ Less → t ≡ true
       go true t e = cc
       go false true e = refl
       go false false e = cc
 
-  pub order-more : order_of j k ≡ More → less_bytes k j ≡ true
+  pub order-more : order_of j k ≡ Greater → less_bytes k j ≡ true
   unfolding order_of
   order-more e = go (same_bytes j k) refl (less_bytes j k) refl e
     where
-      go : (s : Bool) → same_bytes j k ≡ s → (t : Bool) → less_bytes j k ≡ t → pick s Same (pick t Less More) ≡ More → less_bytes k j ≡ true
+      go : (s : Bool) → same_bytes j k ≡ s → (t : Bool) → less_bytes j k ≡ t → pick s Equal (pick t Less Greater) ≡ Greater → less_bytes k j ≡ true
       go true p t q e = cc
       go false p true q e = cc
       go false p false q e = less-total j k p q
 
 -- ---- by the first bytes
 
-pub order-none : order_of [] [] ≡ Same
+pub order-none : order_of [] [] ≡ Equal
 unfolding order_of same_bytes
 order-none = refl
 
@@ -198,7 +198,7 @@ pub order-shorter : (y : ℕ) (k : List ℕ) → order_of [] (y ∷ k) ≡ Less
 unfolding order_of same_bytes less_bytes
 order-shorter y k = refl
 
-pub order-longer : (x : ℕ) (j : List ℕ) → order_of (x ∷ j) [] ≡ More
+pub order-longer : (x : ℕ) (j : List ℕ) → order_of (x ∷ j) [] ≡ Greater
 unfolding order_of same_bytes less_bytes
 order-longer x j = refl
 
@@ -211,7 +211,7 @@ module _ (x y : ℕ) (j k : List ℕ) where
   unfolding less_bytes
   order-first-less h = less-order (x ∷ j) (y ∷ k) (rw (lt-ltb x y h))
 
-  pub order-first-more : y < x → order_of (x ∷ j) (y ∷ k) ≡ More
+  pub order-first-more : y < x → order_of (x ∷ j) (y ∷ k) ≡ Greater
   unfolding less_bytes
   order-first-more h = more-order (x ∷ j) (y ∷ k) (rw (lt-ltb y x h))
 

@@ -1,44 +1,26 @@
--- Laws of `rank_of`: it is put together of the ranks of its pieces, and among strings of one length the smaller rank comes first, whatever stands
+-- Laws of `rank_of`: among strings of one length the smaller rank comes first, whatever stands
 -- behind them. Assumes nothing.
-use Prim.Native.Nat.{ℕ, zero, suc, ◌+◌, ◌*◌, ◌^◌, ◌≤◌, ◌<◌}
+use Prim.Native.Nat.{ℕ, suc, ◌+◌, ◌*◌, ◌^◌, ◌≤◌, ◌<◌}
 use mathlib.Core.Path.{◌≡◌, refl, ap, ap₂, sym, ◌∙◌, subst}
 use mathlib.Core.List.{List, [], ◌∷◌, ◌++◌}
 use native.Mathlib.Omega.{arith}
-use native.Mathlib.Nat.{pow-succ', mul_assoc, add-mul, mul-le-mul_right, zero-add, one-mul, suc-add, suc-mul}
+use native.Mathlib.Nat.{pow-succ', mul-le-mul_right, suc-mul}
 use native.Mathlib.Decide.{dec_lt}
 use lib.Dec.{lit<}
-use lib.ListN.{length, get_or, take, drop, length-append, take-append-drop}
+use lib.ListN.{length, take, drop, take-append-drop}
 use lib.Seq.{drop-drop}
+use Rattle.std.specs.Int.{w64, from_be_bytes}
 use Rattle.fields.specs.Choice.{here, later}
 use Rattle.fields.specs.Numbers.{AreBytes}
 use Rattle.fields.specs.Order.{order_of, rank_of}
 use Rattle.fields.specs.Parts.{part}
-use Rattle.fields.specs.declared.Order.TheVariants.{Less, More}
+use Rattle.std.specs.declared.cmp.Ordering.TheVariants.{Less, Greater}
 use Rattle.fields.proofs.Ordered.{order-first-same, order-first-less, order-less, more-order}
-use Rattle.fields.proofs.Parts.{part-cons, part-add, length_part}
-use Rattle.fields.proofs.Numbers.{bytes-part}
-
-pow-sum : (m n : ℕ) → 256 ^ (m + n) ≡ 256 ^ m * 256 ^ n
-pow-sum zero n = ap (λ (k : ℕ). 256 ^ k) (zero-add n) ∙ sym (one-mul (256 ^ n))
-pow-sum (suc m) n =
-    ap (λ (k : ℕ). 256 ^ k) (suc-add m n)
-    ∙ pow-succ' 256 (m + n)
-    ∙ ap (λ (k : ℕ). 256 * k) (pow-sum m n)
-    ∙ sym (mul_assoc 256 (256 ^ m) (256 ^ n))
-    ∙ ap (λ (k : ℕ). k * 256 ^ n) (sym (pow-succ' 256 m))
+use Rattle.fields.proofs.Parts.{length_part}
+use Rattle.fields.proofs.Numbers.{bytes-part, each-of}
 
 one_more : (y x p : ℕ) → y < x → y * p + p ≤ x * p
 one_more y x p h = subst (λ (k : ℕ). k ≤ x * p) (suc-mul y p) (mul-le-mul_right {m = suc y} {n = x} p h)
-
--- a rank of two pieces: the first is the upper one
-pub rank-append : (xs ys : List ℕ) → rank_of (xs ++ ys) ≡ rank_of xs * 256 ^ length ys + rank_of ys
-unfolding rank_of
-rank-append [] ys = omega arith
-rank-append (x ∷ xs) ys =
-    let e : x * 256 ^ length (xs ++ ys) ≡ x * 256 ^ length xs * 256 ^ length ys =
-    ap (λ (k : ℕ). x * k) (ap (λ (k : ℕ). 256 ^ k) (length-append xs ys) ∙ pow-sum (length xs) (length ys))
-    ∙ sym (mul_assoc x (256 ^ length xs) (256 ^ length ys)) in
-    rw (rank-append xs ys, e, add-mul (x * 256 ^ length xs) (rank_of xs) (256 ^ length ys)) (omega arith)
 
 pub rank_below : (bs : List ℕ) → AreBytes bs → rank_of bs < 256 ^ length bs
 unfolding rank_of
@@ -47,17 +29,10 @@ rank_below (b ∷ bs) h =
     let g : b < 256 = h b (here refl) in
     rw (pow-succ' 256 (length bs)) (omega (arith, rank_below bs (λ x p. h x (later p)), one_more b 256 (256 ^ length bs) g))
 
--- ---- ranks in a list
-
-pub rank-add : (at n m : ℕ) (l : List ℕ) → at + (n + m) ≤ length l → rank_of (part at (n + m) l) ≡ rank_of (part at n l) * 256 ^ m + rank_of (part (at + n) m l)
-rank-add at n m l h =
-    ap rank_of (part-add at n m l)
-    ∙ rank-append (part at n l) (part (at + n) m l)
-    ∙ ap (λ (k : ℕ). rank_of (part at n l) * 256 ^ k + rank_of (part (at + n) m l)) (length_part (at + n) m l (omega arith))
-
-pub rank-one : (s : List ℕ) (at : ℕ) → at < length s → rank_of (part at 1 s) ≡ get_or s at 0
-unfolding rank_of part
-rank-one s at h = ap rank_of (part-cons s at 0 h) ∙ omega arith
+-- std's word for the same, of eight bytes
+pub rank-eight : (bs : List ℕ) → length bs ≡ 8 → from_be_bytes w64 bs ≡ rank_of bs
+unfolding rank_of
+rank-eight = each-of 8 (λ bs. from_be_bytes w64 bs ≡ rank_of bs) (λ a b c d e f g h. omega arith)
 
 -- ---- the smaller rank comes first
 
@@ -134,7 +109,7 @@ module _ (i n : ℕ) (j k : List ℕ) (b : AreBytes j) (d : AreBytes k) (h : i +
   ranked-less p =
       ranked-apart ∙ rank_less (drop (i + n) j) (drop (i + n) k) (part i n j) (part i n k) one-length (bytes-part i n j b) (bytes-part i n k d) p
 
-  pub ranked-more : rank_of (part i n k) < rank_of (part i n j) → order_of (drop i j) (drop i k) ≡ More
+  pub ranked-more : rank_of (part i n k) < rank_of (part i n j) → order_of (drop i j) (drop i k) ≡ Greater
   ranked-more p =
       ranked-apart
       ∙ more-order _ _

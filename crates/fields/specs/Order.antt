@@ -2,8 +2,8 @@
 use Rattle.std.specs.Prelude.{ℕ, ◌+◌, ◌*◌, ◌^◌, Bool, true, false, List, [], ◌∷◌, eqb, ltb, length}
 use Rattle.fields.specs.Numbers.{Bytes}
 use Rattle.fields.specs.Choice.{pick}
-use Rattle.fields.specs.declared.Order.{Order}
-use Rattle.fields.specs.declared.Order.TheVariants.{Less, Same, More}
+use Rattle.std.specs.declared.cmp.Ordering.{Ordering}
+use Rattle.std.specs.declared.cmp.Ordering.TheVariants.{Less, Equal, Greater}
 
 unfoldable pub same_bytes : (first second : Bytes) → Bool
 same_bytes [] [] = true
@@ -18,8 +18,8 @@ less_bytes [] (b ∷ k) = true
 less_bytes (a ∷ j) [] = false
 less_bytes (a ∷ j) (b ∷ k) = pick (ltb a b) true (pick (eqb a b) (less_bytes j k) false)
 
-unfoldable pub order_of : (j key : Bytes) → Order
-order_of j k = pick (same_bytes j k) Same (pick (less_bytes j k) Less More)
+unfoldable pub order_of : (j key : Bytes) → Ordering
+order_of j k = pick (same_bytes j k) Equal (pick (less_bytes j k) Less Greater)
 
 -- the second begins with the first
 unfoldable pub starts_with : (prefix key : Bytes) → Bool

@@ -13,7 +13,7 @@ use Rattle.rules.specs.Digest.{NodeDigest, Refused, read_digest}
 use Rattle.rules.specs.Given.{given}
 use Rattle.rules.specs.Node.{Rec, beats}
 use Rattle.rules.specs.Table.{among}
-use Rattle.rules.specs.declared.Answer.TheVariants as plain
+use Rattle.std.specs.Prelude.{Err}
 use Rattle.rules.specs.declared.Refusal.{Refusal}
 use Rattle.rules.specs.declared.Refusal.TheVariants.{BadPeer, NobodyPresent}
 use Rattle.rules.specs.declared.Status.TheVariants.{Delete}
@@ -21,7 +21,6 @@ use Rattle.grid.specs.Grid.{Grid, add_column, column_in, column_out, columns, dr
 use Rattle.grid.specs.GridLayout.{decode_grid, valid_grid}
 use Rattle.grid.specs.Careful.{careful_due}
 use Rattle.grid.specs.LentGrid.{lent_least, lent_tell}
-use Rattle.grid.specs.declared.Least.TheVariants as least
 
 -- a digest of one node, and of two
 abbrev one : (number gc max : ℕ) → List NodeDigest
@@ -125,17 +124,17 @@ module _ where
 
 module _ (grid : Bytes) (v : valid_grid grid ≡ true) where
   -- 22 before 2
-  pub nobody-first : (number : ℕ) → somebody (decode_grid grid) ≡ false → lent_least number grid ≡ least.Refused NobodyPresent
+  pub nobody-first : (number : ℕ) → somebody (decode_grid grid) ≡ false → lent_least number grid ≡ Err NobodyPresent
   unfolding lent_least
   nobody-first number e = rw (v, e) refl
 
   -- 21 before a digest's own numbers, 20 among them
-  pub peer-first : (peer edition : ℕ) (digest : Bytes) → ltb peer max_peers ≡ false → lent_tell peer edition digest grid ≡ given (plain.Refused BadPeer) grid
+  pub peer-first : (peer edition : ℕ) (digest : Bytes) → ltb peer max_peers ≡ false → lent_tell peer edition digest grid ≡ given (Err BadPeer) grid
   unfolding lent_tell
   peer-first peer edition digest e = rw (v, e) refl
 
   -- a refused digest leaves every byte, so that it makes nobody present
   pub refused-leaves : (peer edition : ℕ) (digest : Bytes) (r : Refusal) → ltb peer max_peers ≡ true → read_digest edition digest ≡ Refused r
-      → lent_tell peer edition digest grid ≡ given (plain.Refused r) grid
+      → lent_tell peer edition digest grid ≡ given (Err r) grid
   unfolding lent_tell
   refused-leaves peer edition digest r e q = rw (v, e, q) refl

@@ -3,26 +3,25 @@ use mathlib.Core.Path.{◌≡◌, refl, ap, ap₂, sym}
 use native.Mathlib.Omega.{arith}
 use Rattle.rules.proofs.Told.{number_is, value-is, values-long, need-is, not-refused, same-refusal}
 use Rattle.grid.specs.LentGrid.{least_told, seen_told}
-use Rattle.grid.specs.declared.Least.{Least}
-use Rattle.grid.specs.declared.Least.TheVariants as least
-use Rattle.grid.specs.declared.Seen.{Seen}
-use Rattle.grid.specs.declared.Seen.TheVariants as seen
+use Rattle.std.specs.Prelude.{Err, None, Ok, Option, Result, Some, ℕ}
+use Rattle.rules.specs.declared.Pair.{Pair}
+use Rattle.rules.specs.declared.Refusal.{Refusal}
 
-pub same-least : (a b : Least) → least_told a ≡ least_told b → a ≡ b
+pub same-least : (a b : (Result ℕ Refusal)) → least_told a ≡ least_told b → a ≡ b
 unfolding least_told
-same-least (least.Is n) (least.Is m) e = ap least.Is (value-is e 0)
-same-least (least.Is n) (least.Refused r) e = not-refused r (number_is e)
-same-least (least.Refused r) (least.Is n) e = not-refused r (sym (number_is e))
-same-least (least.Refused r) (least.Refused s) e = ap least.Refused (same-refusal r s (number_is e) (need-is e))
+same-least (Ok n) (Ok m) e = ap Ok (value-is e 0)
+same-least (Ok n) (Err r) e = not-refused r (number_is e)
+same-least (Err r) (Ok n) e = not-refused r (sym (number_is e))
+same-least (Err r) (Err s) e = ap Err (same-refusal r s (number_is e) (need-is e))
 
-pub same_seen : (a b : Seen) → seen_told a ≡ seen_told b → a ≡ b
+pub same_seen : (a b : (Result (Option Pair) Refusal)) → seen_told a ≡ seen_told b → a ≡ b
 unfolding seen_told
-same_seen (seen.Pair g m) (seen.Pair h n) e = ap₂ seen.Pair (value-is e 0) (value-is e 1)
-same_seen (seen.Pair g m) seen.Absent e = absurd (omega (arith, values-long e))
-same_seen (seen.Pair g m) (seen.Refused r) e = not-refused r (number_is e)
-same_seen seen.Absent (seen.Pair h n) e = absurd (omega (arith, values-long e))
-same_seen seen.Absent seen.Absent e = refl
-same_seen seen.Absent (seen.Refused r) e = not-refused r (number_is e)
-same_seen (seen.Refused r) (seen.Pair h n) e = not-refused r (sym (number_is e))
-same_seen (seen.Refused r) seen.Absent e = not-refused r (sym (number_is e))
-same_seen (seen.Refused r) (seen.Refused s) e = ap seen.Refused (same-refusal r s (number_is e) (need-is e))
+same_seen (Ok (Some p)) (Ok (Some pp)) e = ap₂ (λ a b. Ok (Some (record { last_gc = a; max = b }))) (value-is e 0) (value-is e 1)
+same_seen (Ok (Some p)) (Ok None) e = absurd (omega (arith, values-long e))
+same_seen (Ok (Some p)) (Err r) e = not-refused r (number_is e)
+same_seen (Ok None) (Ok (Some p)) e = absurd (omega (arith, values-long e))
+same_seen (Ok None) (Ok None) e = refl
+same_seen (Ok None) (Err r) e = not-refused r (number_is e)
+same_seen (Err r) (Ok (Some p)) e = not-refused r (sym (number_is e))
+same_seen (Err r) (Ok None) e = not-refused r (sym (number_is e))
+same_seen (Err r) (Err s) e = ap Err (same-refusal r s (number_is e) (need-is e))

@@ -1,11 +1,11 @@
 -- Values in the bytes of a grid: what was written is the grid of these values, and what was read are the values of the grid. Assumes nothing.
-use Prim.Native.Nat.{ℕ, zero, suc, ◌+◌, ◌-◌, ◌≤◌, ◌<◌}
-use mathlib.Core.Path.{◌≡◌, ◌∙◌, ap, ap₂, refl, sym}
+use Prim.Native.Nat.{ℕ, ◌+◌, ◌-◌, ◌≤◌, ◌<◌}
+use mathlib.Core.Path.{◌≡◌, ◌∙◌, ap, ap₂, sym}
 use mathlib.Core.Bool.{true, false}
-use mathlib.Core.List.{List, [], ◌∷◌, ◌++◌, map}
+use mathlib.Core.List.{List, [], ◌∷◌, ◌++◌, append_assoc, map}
 use native.Mathlib.Omega.{arith}
 use native.Mathlib.Numerals.{add-one}
-use lib.ListN.{length, take, drop, get_or, set}
+use lib.ListN.{length, take, drop, get_or, set, length-map}
 use lib.Seq.{drop-set-add, length-take-le, set_at, take_all, take-set-lt, take-suc}
 use Rattle.fields.specs.Numbers.{bytes_of, nat_of}
 use Rattle.fields.specs.Parts.{part, put}
@@ -18,7 +18,10 @@ use Rattle.fields.proofs.Parts.{length_part}
 use Rattle.fields.proofs.Widths.{field-set, joined-whole, widths-set}
 use Rattle.rules.specs.Sizes.{max_nodes}
 use Rattle.rules.specs.Table.{among}
-use Rattle.grid.specs.Grid.{Grid, add_column, column_in, column_out, columns, drop_column, max_peers, place_for, place_in, place_of, place_out}
+use Rattle.rules.specs.Compute.{told_of}
+use Rattle.rules.specs.Digest.{NodeDigest}
+use Rattle.std.proofs.lemmas.List.{take-map, get_or-map}
+use Rattle.grid.specs.Grid.{Grid, row_told, add_column, column_in, column_out, columns, drop_column, max_peers, place_for, place_in, place_of, place_out}
 use Rattle.grid.specs.GridLayout.{decode_grid, encode_grid, grid_width, grid_widths, row_bytes, row_in, row_width, rows_bytes, rows_in, rows_width, valid_grid}
 use Rattle.grid.proofs.GridBytes.{fit-whole, good-grid, length-row, length-rows, row-long}
 use Rattle.grid.proofs.Places.{place-missing, place-there}
@@ -84,18 +87,24 @@ fill n i x xs h few e =
     ap (λ (l : List ℕ). set l i x) (fit-pad n (take i xs) (omega arith) ∙ ap (λ (k : ℕ). take i xs ++ zeros (n - k)) li ∙ ap (λ (z : List ℕ). take i xs ++ z) (zeros-next i n (omega arith)))
     ∙ set_at (take i xs) 0 (zeros (n - (i + 1))) x i li
     ∙ ap (λ (y : ℕ). take i xs ++ (y ∷ zeros (n - (i + 1)))) e
-    ∙ sym (append-cons (take i xs) (get_or xs i 0) (zeros (n - (i + 1))))
+    ∙ sym (append_assoc (take i xs) (get_or xs i 0 ∷ []) (zeros (n - (i + 1))))
     ∙ ap₂ (λ (l : List ℕ) (k : ℕ). l ++ zeros (n - k)) (sym (ap (λ (k : ℕ). take k xs) (add-one i) ∙ take-suc xs i 0 h)) (sym lj)
     ∙ sym (fit-pad n (take (i + 1) xs) (omega arith))
-  where
-    append-cons : (a : List ℕ) (y : ℕ) (b : List ℕ) → (a ++ (y ∷ [])) ++ b ≡ a ++ (y ∷ b)
-    append-cons [] y b = refl
-    append-cons (x ∷ a) y b = ap (λ (l : List ℕ). x ∷ l) (append-cons a y b)
 
-pub map_at : (f : ℕ → ℕ) (l : List ℕ) (j : ℕ) → j < length l → get_or (map f l) j 0 ≡ f (get_or l j 0)
-map_at f [] j h = absurd (omega arith)
-map_at f (x ∷ l) zero h = refl
-map_at f (x ∷ l) (suc j) h = map_at f l j (omega arith)
+-- the same of what a digest tells of one number after the other
+pub told_none : (f : NodeDigest → ℕ) (ds : List NodeDigest) (ns : List ℕ) → zeros max_nodes ≡ row_told f ds (take 0 ns)
+unfolding row_told
+told_none f ds ns = sym (fit_none max_nodes)
+
+pub told_more : (f : NodeDigest → ℕ) (ds : List NodeDigest) (ns : List ℕ) (j x : ℕ) → length ns ≡ max_nodes → j < max_nodes → x ≡ f (told_of (get_or ns j 0) ds)
+    → set (row_told f ds (take j ns)) j x ≡ row_told f ds (take (j + 1) ns)
+unfolding row_told
+told_more f ds ns j x long h e =
+    let told : ℕ → ℕ = λ (i : ℕ). f (told_of i ds) in
+    let many = length-map ns told in
+    ap (λ (l : List ℕ). set (fit max_nodes l) j x) (sym (take-map told j ns))
+    ∙ fill max_nodes j x (map told ns) (omega (arith, many)) (omega (arith, many)) (e ∙ sym (get_or-map told ns j 0 0 (omega arith)))
+    ∙ ap (fit max_nodes) (take-map told (j + 1) ns)
 
 -- ---- what was read of a good grid
 

@@ -40,10 +40,8 @@ fn numbers_of(area: &[u8]) -> [u64; sizes::NODES]
 {
     let n = fields::byte_at(area, table::layout::NODE_COUNT);
     let mut numbers = [0u64; sizes::NODES];
-    let mut i = 0;
-    while i < n {
+    for i in 0..n {
         numbers[i] = table_read::number_at(area, i);
-        i += 1;
     }
     numbers
 }
@@ -107,34 +105,24 @@ pub fn drop_column(grid: &mut [u8], number: u64)
     }
 }
 
-// The last_gc that a digest tells of each of the first `n` numbers.
-fn told_gcs(digest: Digest, numbers: [u64; sizes::NODES], n: usize) -> [u64; sizes::NODES]
+// The rows of last_gc and of max that a digest tells of the first `n` numbers.
+fn rows_told(
+    digest: Digest,
+    numbers: [u64; sizes::NODES],
+    n: usize,
+) -> ([u64; sizes::NODES], [u64; sizes::NODES])
     requires { n ≤ max_nodes }
-    ensures { result ≡ row_told (λ d. d.last_gc) (entries_in digest) (take n numbers) }
+    ensures gcs { result.0 ≡ row_told (λ d. d.last_gc) (entries_in digest) (take n numbers) }
+    ensures maxes { result.1 ≡ row_told (λ d. d.max) (entries_in digest) (take n numbers) }
 {
-    let mut row = [0u64; sizes::NODES];
-    let mut j = 0;
-    while j < n {
+    let mut gcs = [0u64; sizes::NODES];
+    let mut maxes = [0u64; sizes::NODES];
+    for j in 0..n {
         let pair = digest_read::told(digest, numbers[j]);
-        row[j] = pair.last_gc;
-        j += 1;
+        gcs[j] = pair.last_gc;
+        maxes[j] = pair.max;
     }
-    row
-}
-
-// The max that a digest tells of each of the first `n` numbers.
-fn told_maxes(digest: Digest, numbers: [u64; sizes::NODES], n: usize) -> [u64; sizes::NODES]
-    requires { n ≤ max_nodes }
-    ensures { result ≡ row_told (λ d. d.max) (entries_in digest) (take n numbers) }
-{
-    let mut row = [0u64; sizes::NODES];
-    let mut j = 0;
-    while j < n {
-        let pair = digest_read::told(digest, numbers[j]);
-        row[j] = pair.max;
-        j += 1;
-    }
-    row
+    (gcs, maxes)
 }
 
 // Both rows of a peer become these, and the peer is present (1) or absent (0).
@@ -166,13 +154,8 @@ pub fn tell_row(grid: &mut [u8], peer: usize, digest: Digest)
 {
     let n = fields::byte_at(grid, layout::COUNT);
     let numbers = grid_rows::read_row(&grid[layout::NUMBERS..layout::PRESENT]);
-    set_rows(
-        grid,
-        peer,
-        1,
-        told_gcs(digest, numbers, n),
-        told_maxes(digest, numbers, n),
-    );
+    let (gcs, maxes) = rows_told(digest, numbers, n);
+    set_rows(grid, peer, 1, gcs, maxes);
 }
 
 // A peer goes, and what it told with it.

@@ -1,23 +1,26 @@
 -- Loops that test the places of a list one after the other: what is left decides. Assumes nothing.
 use Prim.Native.Nat.{ℕ, zero, suc, ◌+◌, ◌≤◌, ◌<◌}
 use mathlib.Core.Path.{◌≡◌, ◌∙◌, ap, refl, sym}
-use mathlib.Core.Bool.{Bool, true, false, ◌&&◌}
+use mathlib.Core.Bool.{Bool, true, false, ◌&&◌, ◌||◌}
 use mathlib.Core.List.{List, [], ◌∷◌}
 use native.Mathlib.Omega.{arith}
 use native.Mathlib.Numerals.{add-one}
-use lib.Dec.{eqb, leb}
+use lib.Dec.{eqb, leb, ltb}
 use lib.ListN.{length, take, drop, get_or, drop_of_length-le}
-use lib.Seq.{drop-cons}
+use lib.Seq.{drop-cons, get_or-take, length-take-le}
 use borrow.Author.Tests.{eq-eqb, le-leb, lt-leb, ne_eqb}
+use Rattle.std.proofs.lemmas.Bool.{eqb-true, eqb-false}
+use Rattle.std.specs.List.{IsAllAdjacentAnswer, list_all, list_any, zip}
+use borrow.Author.Rules.{rules}
 use Rattle.fields.specs.Choice.{all, every, pick}
 use Rattle.fields.specs.Blocks.{all_zero}
 use Rattle.fields.specs.Order.{same_bytes}
-use Rattle.fields.proofs.Choice.{and_no, and_yes}
+use Rattle.fields.proofs.Choice.{and_intro, and_no, and_yes}
 use Rattle.fields.specs.Numbers.{AreBytes, nat_of}
 use Rattle.fields.specs.Parts.{part}
 use Rattle.fields.specs.Widths.{offset}
 use Rattle.rules.specs.Sizes.{max_nodes}
-use Rattle.rules.specs.Table.{Entry, Table, numbers_of, rising}
+use Rattle.rules.specs.Table.{Entry, Table, among, numbers_of, rising}
 use Rattle.rules.specs.Layout.{decode}
 use Rattle.table.specs.Changes.{fresh_entry}
 use Rattle.table.specs.Tests.{nodes_of}
@@ -29,72 +32,63 @@ use Rattle.grid.proofs.GridBytes.{valid-is}
 use Rattle.grid_check.specs.Head.{head_obeys}
 use Rattle.grid.specs.LentGrid.{fits_table}
 
--- ---- zeros
+-- ---- what the library says of a test of each, and what the rules say
 
-module _ (r : List ℕ) (j : ℕ) where
-  pub zero-end : length r ≤ j → all_zero (drop j r) ≡ true
-  unfolding all_zero
-  zero-end h = ap all_zero (drop_of_length-le r {i = j} h)
+pub all-is : (p : ℕ → Bool) (l : List ℕ) → list_all p l ≡ all p l
+unfolding all
+all-is p [] = refl
+all-is p (x ∷ l) = ap (λ (b : Bool). p x && b) (all-is p l)
 
-  pub zero-not : j < length r → (get_or r j 0 ≡ 0 → ⊥) → all_zero (drop j r) ≡ false
-  unfolding all_zero
-  zero-not h n = ap all_zero (drop-cons r j 0 h) ∙ and_no (eqb (get_or r j 0) 0) (all_zero (drop (suc j) r)) (ne_eqb (get_or r j 0) 0 n)
+pub zero-is : (l : List ℕ) → list_all (λ x. eqb x 0) l ≡ all_zero l
+unfolding all_zero
+zero-is [] = refl
+zero-is (x ∷ l) = ap (λ (b : Bool). eqb x 0 && b) (zero-is l)
 
-  pub zero-on : j < length r → get_or r j 0 ≡ 0 → all_zero (drop j r) ≡ all_zero (drop (j + 1) r)
-  unfolding all_zero
-  zero-on h e =
-      ap all_zero (drop-cons r j 0 h)
-      ∙ and_yes (eqb (get_or r j 0) 0) (all_zero (drop (suc j) r)) (eq-eqb (get_or r j 0) 0 e)
-      ∙ ap (λ (k : ℕ). all_zero (drop k r)) (sym (add-one j))
+pub among-is : (i : ℕ) (l : List ℕ) → list_any (λ x. eqb x i) l ≡ among i l
+unfolding among
+among-is i [] = refl
+among-is i (x ∷ l) = either (eqb x i) (eqb i x) (list_any (λ y. eqb y i) l) (among i l) (alike x i) (among-is i l)
+  where
+    alike : (m n : ℕ) → eqb m n ≡ eqb n m
+    alike m n = go (eqb m n) refl
+      where
+        go : (b : Bool) → eqb m n ≡ b → b ≡ eqb n m
+        go true e = sym (eq-eqb n m (sym (eqb-true m n e)))
+        go false e = sym (ne_eqb n m (λ q. eqb-false m n e (sym q)))
 
--- ---- a test of each
+    either : (a b c d : Bool) → a ≡ b → c ≡ d → a || c ≡ pick b true d
+    either a true c d e f = rw e refl
+    either a false c d e f = rw e f
 
-module _ (p : ℕ → Bool) (l : List ℕ) (x : ℕ) where
-  pub all_end : length l ≤ x → all p (drop x l) ≡ true
-  unfolding all
-  all_end h = ap (all p) (drop_of_length-le l {i = x} h)
+pub rows_is : (n : ℕ) (fs : List ℕ) (rs : List (List ℕ)) → list_all (λ r. all_zero (drop (pick (eqb r.0 1) n 0) r.1)) (zip fs rs) ≡ rows_obey n fs rs
+unfolding rows_obey
+rows_is n [] rs = refl
+rows_is n (f ∷ fs) [] = refl
+rows_is n (f ∷ fs) (r ∷ rs) = ap (λ (b : Bool). all_zero (drop (pick (eqb f 1) n 0) r) && b) (rows_is n fs rs)
 
-  pub all-not : x < length l → p (get_or l x 0) ≡ false → all p (drop x l) ≡ false
-  unfolding all
-  all-not h n = ap (all p) (drop-cons l x 0 h) ∙ and_no (p (get_or l x 0)) (all p (drop (suc x) l)) n
+-- ---- each below the next
 
-  pub all-on : x < length l → p (get_or l x 0) ≡ true → all p (drop x l) ≡ all p (drop (x + 1) l)
-  unfolding all
-  all-on h e =
-      ap (all p) (drop-cons l x 0 h)
-      ∙ and_yes (p (get_or l x 0)) (all p (drop (suc x) l)) e
-      ∙ ap (λ (k : ℕ). all p (drop k l)) (sym (add-one x))
+rises_on : (xs : List ℕ) → ((k : ℕ) (d : ℕ) → k + 1 < length xs → true ≡ ltb (get_or xs k d) (get_or xs (k + 1) d)) → rising xs ≡ true
+unfolding rising
+rises_on [] f = refl
+rises_on (a ∷ []) f = refl
+rises_on (a ∷ b ∷ l) f = and_intro (ltb a b) (rising (b ∷ l)) (sym (f 0 0 (omega arith))) (rises_on (b ∷ l) (λ k d h. let e : suc k + 1 ≡ suc (k + 1) = omega arith in let g = f (suc k) d (omega arith) in rw e at g))
 
--- ---- rows
+falls_at : (xs : List ℕ) (k : ℕ) → suc k < length xs → ltb (get_or xs k 0) (get_or xs (suc k) 0) ≡ false → rising xs ≡ false
+unfolding rising
+falls_at [] k h e = absurd (omega arith)
+falls_at (a ∷ []) k h e = absurd (omega arith)
+falls_at (a ∷ b ∷ l) zero h e = and_no (ltb a b) (rising (b ∷ l)) e
+falls_at (a ∷ b ∷ l) (suc k) h e = rw (falls_at (b ∷ l) k (omega arith) e) (search rules)
 
-module _ (n : ℕ) (fs : List ℕ) (rs : List (List ℕ)) (x : ℕ) where
-  pub rows_end : length fs ≤ x → rows_obey n (drop x fs) (drop x rs) ≡ true
-  unfolding rows_obey
-  rows_end h = ap (λ (l : List ℕ). rows_obey n l (drop x rs)) (drop_of_length-le fs {i = x} h)
-
-  module _ (d : List ℕ) (h : x < length fs) (g : x < length rs) where
-    abbrev empty : Bool
-    empty = all_zero (drop (pick (eqb (get_or fs x 0) 1) n 0) (get_or rs x d))
-
-    rows_at : rows_obey n (drop x fs) (drop x rs) ≡ (empty && rows_obey n (drop (suc x) fs) (drop (suc x) rs))
-    unfolding rows_obey
-    rows_at =
-        ap (λ (l : List ℕ). rows_obey n l (drop x rs)) (drop-cons fs x 0 h)
-        ∙ ap (rows_obey n (get_or fs x 0 ∷ drop (suc x) fs)) (drop-cons rs x d g)
-
-    pub rows-not : empty ≡ false → rows_obey n (drop x fs) (drop x rs) ≡ false
-    rows-not e = rows_at ∙ and_no empty (rows_obey n (drop (suc x) fs) (drop (suc x) rs)) e
-
-    pub rows_on : empty ≡ true → rows_obey n (drop x fs) (drop x rs) ≡ rows_obey n (drop (x + 1) fs) (drop (x + 1) rs)
-    rows_on e =
-        rows_at
-        ∙ and_yes empty (rows_obey n (drop (suc x) fs) (drop (suc x) rs)) e
-        ∙ ap (λ (k : ℕ). rows_obey n (drop k fs) (drop k rs)) (sym (add-one x))
+pub rising-is : (xs : List ℕ) (r : Bool) → IsAllAdjacentAnswer (λ x y b. b ≡ ltb x y) xs r → r ≡ rising xs
+rising-is xs true f = sym (rises_on xs f)
+rising-is xs false f = sym (let g = sym (f.2 0) in falls_at xs f.0 (omega (arith, f.1)) (rw add-one at g))
 
 -- ---- two lists
 
 module _ (ns ms : List ℕ) (i : ℕ) where
-  pub same_end : length ns ≤ i → length ms ≤ i → same_bytes (drop i ns) (drop i ms) ≡ true
+  same_end : length ns ≤ i → length ms ≤ i → same_bytes (drop i ns) (drop i ms) ≡ true
   unfolding same_bytes
   same_end h g = ap (λ (l : List ℕ). same_bytes l (drop i ms)) (drop_of_length-le ns {i = i} h) ∙ ap (same_bytes []) (drop_of_length-le ms {i = i} g)
 
@@ -105,14 +99,26 @@ module _ (ns ms : List ℕ) (i : ℕ) where
         ap (λ (l : List ℕ). same_bytes l (drop i ms)) (drop-cons ns i 0 h)
         ∙ ap (same_bytes (get_or ns i 0 ∷ drop (suc i) ns)) (drop-cons ms i 0 g)
 
-    pub same_not : (get_or ns i 0 ≡ get_or ms i 0 → ⊥) → same_bytes (drop i ns) (drop i ms) ≡ false
+    same_not : (get_or ns i 0 ≡ get_or ms i 0 → ⊥) → same_bytes (drop i ns) (drop i ms) ≡ false
     same_not n = same_at ∙ ap (λ (b : Bool). pick b (same_bytes (drop (suc i) ns) (drop (suc i) ms)) false) (ne_eqb (get_or ns i 0) (get_or ms i 0) n)
 
-    pub same-on : get_or ns i 0 ≡ get_or ms i 0 → same_bytes (drop i ns) (drop i ms) ≡ same_bytes (drop (i + 1) ns) (drop (i + 1) ms)
+    same-on : get_or ns i 0 ≡ get_or ms i 0 → same_bytes (drop i ns) (drop i ms) ≡ same_bytes (drop (i + 1) ns) (drop (i + 1) ms)
     same-on e =
         same_at
         ∙ ap (λ (b : Bool). pick b (same_bytes (drop (suc i) ns) (drop (suc i) ms)) false) (eq-eqb (get_or ns i 0) (get_or ms i 0) e)
         ∙ ap (λ (k : ℕ). same_bytes (drop k ns) (drop k ms)) (sym (add-one i))
+
+-- the first n of a row beside n numbers, of which i are passed
+module _ (n i : ℕ) (row ns : List ℕ) (few : n ≤ length row) (many : n ≡ length ns) where
+  pub columns_end : n ≤ i → same_bytes (drop i (take n row)) (drop i ns) ≡ true
+  columns_end h = same_end (take n row) ns i (omega (arith, length-take-le n row few)) (omega arith)
+
+  module _ (h : i < n) where
+    pub columns_not : (get_or row i 0 ≡ get_or ns i 0 → ⊥) → same_bytes (drop i (take n row)) (drop i ns) ≡ false
+    columns_not f = same_not (take n row) ns i (omega (arith, length-take-le n row few)) (omega arith) (λ q. f (sym (get_or-take n row i 0 h) ∙ q))
+
+    pub columns-on : get_or row i 0 ≡ get_or ns i 0 → same_bytes (drop i (take n row)) (drop i ns) ≡ same_bytes (drop (i + 1) (take n row)) (drop (i + 1) ns)
+    columns-on e = same-on (take n row) ns i (omega (arith, length-take-le n row few)) (omega arith) (get_or-take n row i 0 h ∙ e)
 
 -- ---- the numbers of a table
 

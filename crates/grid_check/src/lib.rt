@@ -20,14 +20,7 @@ use rules::sizes;
 fn empty_from(row: [u64; sizes::NODES], from: usize) -> bool
     ensures { result ≡ all_zero (drop from row) }
 {
-    let mut j = from;
-    while j < sizes::NODES {
-        if row[j] != 0 {
-            return false;
-        }
-        j += 1;
-    }
-    true
+    row.iter().skip(from).all(|number| *number == 0)
 }
 
 // Whether each of the first `n` numbers is below the next.
@@ -35,32 +28,14 @@ fn numbers_rise(numbers: [u64; sizes::NODES], n: usize) -> bool
     requires { n ≤ max_nodes }
     ensures { result ≡ rising (take n numbers) }
 {
-    let mut j = 0;
-    while j + 1 < n {
-        let x = numbers[j];
-        let y = numbers[j + 1];
-        if x < y {
-            j += 1;
-        } else {
-            return false;
-        }
-    }
-    true
+    numbers[..n].is_sorted_by(|a, b| *a < *b)
 }
 
 // Whether each flag is 0 or 1.
 fn flags_obey(present: &[u8]) -> bool
     ensures { result ≡ all (λ f. leb f 1) present.now }
 {
-    let mut x = 0;
-    while x < present.len() {
-        if present[x] <= 1 {
-            x += 1;
-        } else {
-            return false;
-        }
-    }
-    true
+    present.iter().all(|flag| *flag <= 1)
 }
 
 // How many places of a row may be in use: those of the columns where the peer is present, else none.
@@ -75,16 +50,10 @@ fn rows_obey(rows: [[u64; sizes::NODES]; layout::PEERS], present: &[u8], count: 
     requires { length present.now ≡ max_peers }
     ensures { result ≡ rows_obey count present.now rows }
 {
-    let mut x = 0;
-    while x < layout::PEERS {
-        let row = rows[x];
-        if empty_from(row, used(present[x], count)) {
-            x += 1;
-        } else {
-            return false;
-        }
-    }
-    true
+    present
+        .iter()
+        .zip(rows.iter())
+        .all(|(flag, row)| empty_from(*row, used(*flag, count)))
 }
 
 // Whether what stands in front of the rows obeys: at most eight columns, whose numbers rise, nothing behind them, and flags that are 0 or 1.
@@ -127,14 +96,7 @@ pub fn check_grid(grid: &[u8]) -> bool
 pub fn somebody(present: &[u8]) -> bool
     ensures { result ≡ among 1 present.now }
 {
-    let mut x = 0;
-    while x < present.len() {
-        if present[x] == 1 {
-            return true;
-        }
-        x += 1;
-    }
-    false
+    present.contains(&1)
 }
 
 // Whether the columns of a good grid are the nodes of a good table's area.
@@ -147,11 +109,8 @@ pub fn columns_fit(grid: &[u8], area: &[u8]) -> bool
         return false;
     }
     let numbers = grid_rows::read_row(&grid[layout::NUMBERS..layout::PRESENT]);
-    let mut i = 0;
-    while i < n {
-        if numbers[i] == table_read::number_at(area, i) {
-            i += 1;
-        } else {
+    for i in 0..n {
+        if numbers[i] != table_read::number_at(area, i) {
             return false;
         }
     }

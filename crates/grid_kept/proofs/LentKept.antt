@@ -19,8 +19,9 @@ use Rattle.rules.specs.Local.{Outcome, add, gives, remove_node}
 use Rattle.rules.specs.Sizes.{max_nodes, numbers}
 use Rattle.rules.specs.Table.{Entry, Table, add_node, among, drop_node, entry_obeys, node_obeys, numbers_of, obeys, rising}
 use Rattle.rules.specs.Whole.{Whole, decode_whole, encode_whole, obeys_whole, valid_whole, with_table}
-use Rattle.rules.specs.declared.Answer.{Answer}
-use Rattle.rules.specs.declared.Answer.TheVariants as plain
+use Rattle.std.specs.Prelude.{Err, Result}
+use Rattle.rules.specs.declared.Refusal.{Refusal}
+use Rattle.rules.specs.Results.{done}
 use Rattle.rules.specs.declared.Refusal.TheVariants.{BadPeer, BadTable, NinthNode, NoNode, NobodyPresent}
 use Rattle.rules.proofs.Calls.{number-from, remove-keeps}
 use Rattle.rules.proofs.Formed.{removed-formed}
@@ -82,7 +83,7 @@ pub made-together : (t g : Bytes) → valid_whole t ≡ true → length g ≡ gr
 unfolding lent_new_grid
 made-together t g v e =
     let x : Bytes = encode_grid (new_grid (numbers_of (decode_whole t).table)) in
-    ap (λ (b : Bool). valid_both (pick b (given plain.Done x) (given (plain.Refused BadTable) g)).lent t) (and_intro (eqb (length g) grid_width) (valid_whole t) (eq-eqb (length g) grid_width e) v)
+    ap (λ (b : Bool). valid_both (pick b (given done x) (given (Err BadTable) g)).lent t) (and_intro (eqb (length g) grid_width) (valid_whole t) (eq-eqb (length g) grid_width e) v)
     ∙ ap (valid_both x) (sym (whole-bytes t v))
     ∙ new-together (decode_whole t) (whole-obeys t v)
 
@@ -123,8 +124,8 @@ module _ (g t : Bytes) (v : valid_both g t ≡ true) where
     comes o =
         go (among i (numbers_of w.table)) refl (ltb (length w.table) max_nodes) refl (table-obeys (add i w.table).table (whole-table (add_whole i w).lent o)).rise
       where
-        out : (a b : Bool) → Outcome Answer
-        out a b = pick a (gives plain.Done w.table) (pick b (gives plain.Done (add_node i w.table)) (gives (plain.Refused NinthNode) w.table))
+        out : (a b : Bool) → Outcome (Result (Unit {0}) Refusal)
+        out a b = pick a (gives done w.table) (pick b (gives done (add_node i w.table)) (gives (Err NinthNode) w.table))
 
         fit : (h : Bytes) (y : Grid) → h ≡ encode_grid y → Sound y → columns y ≡ numbers_of (add i w.table).table → valid_both h (encode_whole (add_whole i w).lent) ≡ true
         fit h y e s c = ap (λ (l : Bytes). valid_both l (encode_whole (add_whole i w).lent)) e ∙ together y s (add_whole i w).lent o c
@@ -137,21 +138,21 @@ module _ (g t : Bytes) (v : valid_both g t ≡ true) where
             (both-columns ∙ sym (ap (λ (a : Bool). numbers_of (out a (ltb (length w.table) max_nodes)).table) p))
         go false p true q r =
             let room : length (numbers_of w.table) < max_nodes = omega (arith, numbers-long w.table, ltb-true (length w.table) max_nodes q) in
-            let is : out (among i (numbers_of w.table)) (ltb (length w.table) max_nodes) ≡ gives plain.Done (add_node i w.table) = ap₂ out p q in
-            let rise : rising (numbers_of (add_node i w.table)) ≡ true = ap (λ (o : Outcome Answer). rising (numbers_of o.table)) (sym is) ∙ r in
+            let is : out (among i (numbers_of w.table)) (ltb (length w.table) max_nodes) ≡ gives done (add_node i w.table) = ap₂ out p q in
+            let rise : rising (numbers_of (add_node i w.table)) ≡ true = ap (λ (o : Outcome (Result (Unit {0}) Refusal)). rising (numbers_of o.table)) (sym is) ∙ r in
             fit (grid_on (out (among i (numbers_of w.table)) (ltb (length w.table) max_nodes)).answer (encode_grid (add_column i x)) g) (add_column i x)
-            (ap (λ (o : Outcome Answer). grid_on o.answer (encode_grid (add_column i x)) g) is) (add-sound x sound w.table both-columns i p fits room rise)
-            (add-columns x sound w.table both-columns i p fits room rise ∙ sym (ap (λ (o : Outcome Answer). numbers_of o.table) is))
+            (ap (λ (o : Outcome (Result (Unit {0}) Refusal)). grid_on o.answer (encode_grid (add_column i x)) g) is) (add-sound x sound w.table both-columns i p fits room rise)
+            (add-columns x sound w.table both-columns i p fits room rise ∙ sym (ap (λ (o : Outcome (Result (Unit {0}) Refusal)). numbers_of o.table) is))
         go false p false q r =
-            let is : out (among i (numbers_of w.table)) (ltb (length w.table) max_nodes) ≡ gives (plain.Refused NinthNode) w.table = ap₂ out p q in
+            let is : out (among i (numbers_of w.table)) (ltb (length w.table) max_nodes) ≡ gives (Err NinthNode) w.table = ap₂ out p q in
             fit (grid_on (out (among i (numbers_of w.table)) (ltb (length w.table) max_nodes)).answer (encode_grid (add_column i x)) g) x
-            (ap (λ (o : Outcome Answer). grid_on o.answer (encode_grid (add_column i x)) g) is ∙ stays) sound
-            (both-columns ∙ sym (ap (λ (o : Outcome Answer). numbers_of o.table) is))
+            (ap (λ (o : Outcome (Result (Unit {0}) Refusal)). grid_on o.answer (encode_grid (add_column i x)) g) is ∙ stays) sound
+            (both-columns ∙ sym (ap (λ (o : Outcome (Result (Unit {0}) Refusal)). numbers_of o.table) is))
 
     pub in-together : valid_both (lent_column_in i g t).lent.grid (lent_column_in i g t).lent.table ≡ true
     unfolding lent_column_in add_whole
     in-together =
-        ap (λ (b : Bool). valid_both (pick b (given (add_whole i w).answer (both (grid_on (add_whole i w).answer (encode_grid (add_column i x)) g) (encode_whole (add_whole i w).lent))) (given (plain.Refused BadTable) (both g t))).lent.grid (pick b (given (add_whole i w).answer (both (grid_on (add_whole i w).answer (encode_grid (add_column i x)) g) (encode_whole (add_whole i w).lent))) (given (plain.Refused BadTable) (both g t))).lent.table) v
+        ap (λ (b : Bool). valid_both (pick b (given (add_whole i w).answer (both (grid_on (add_whole i w).answer (encode_grid (add_column i x)) g) (encode_whole (add_whole i w).lent))) (given (Err BadTable) (both g t))).lent.grid (pick b (given (add_whole i w).answer (both (grid_on (add_whole i w).answer (encode_grid (add_column i x)) g) (encode_whole (add_whole i w).lent))) (given (Err BadTable) (both g t))).lent.table) v
         ∙ comes (add-keeps-whole w (whole-obeys t both-table) i fits)
 
   -- ---- a node that goes, and its column
@@ -162,8 +163,8 @@ module _ (g t : Bytes) (v : valid_both g t ≡ true) where
     unfolding remove_whole remove_node
     goes o = go (among i (numbers_of w.table)) refl (table-obeys (remove_node i w.table).table (whole-table (remove_whole i w).lent o)).rise
       where
-        out : (a : Bool) → Outcome Answer
-        out a = pick a (gives plain.Done (drop_node i w.table)) (gives (plain.Refused NoNode) w.table)
+        out : (a : Bool) → Outcome (Result (Unit {0}) Refusal)
+        out a = pick a (gives done (drop_node i w.table)) (gives (Err NoNode) w.table)
 
         fit : (h : Bytes) (y : Grid) → h ≡ encode_grid y → Sound y → columns y ≡ numbers_of (remove_node i w.table).table → valid_both h (encode_whole (remove_whole i w).lent) ≡ true
         fit h y e s c = ap (λ (l : Bytes). valid_both l (encode_whole (remove_whole i w).lent)) e ∙ together y s (remove_whole i w).lent o c
@@ -171,21 +172,21 @@ module _ (g t : Bytes) (v : valid_both g t ≡ true) where
         go : (a : Bool) → among i (numbers_of w.table) ≡ a → rising (numbers_of (out (among i (numbers_of w.table))).table) ≡ true
             → valid_both (grid_on (out (among i (numbers_of w.table))).answer (encode_grid (drop_column i x)) g) (encode_whole (remove_whole i w).lent) ≡ true
         go true p r =
-            let is : out (among i (numbers_of w.table)) ≡ gives plain.Done (drop_node i w.table) = ap out p in
-            let rise : rising (numbers_of (drop_node i w.table)) ≡ true = ap (λ (o : Outcome Answer). rising (numbers_of o.table)) (sym is) ∙ r in
+            let is : out (among i (numbers_of w.table)) ≡ gives done (drop_node i w.table) = ap out p in
+            let rise : rising (numbers_of (drop_node i w.table)) ≡ true = ap (λ (o : Outcome (Result (Unit {0}) Refusal)). rising (numbers_of o.table)) (sym is) ∙ r in
             fit (grid_on (out (among i (numbers_of w.table))).answer (encode_grid (drop_column i x)) g) (drop_column i x)
-            (ap (λ (o : Outcome Answer). grid_on o.answer (encode_grid (drop_column i x)) g) is) (drop-sound x sound w.table both-columns i p rise)
-            (drop-columns x sound w.table both-columns i p rise ∙ sym (ap (λ (o : Outcome Answer). numbers_of o.table) is))
+            (ap (λ (o : Outcome (Result (Unit {0}) Refusal)). grid_on o.answer (encode_grid (drop_column i x)) g) is) (drop-sound x sound w.table both-columns i p rise)
+            (drop-columns x sound w.table both-columns i p rise ∙ sym (ap (λ (o : Outcome (Result (Unit {0}) Refusal)). numbers_of o.table) is))
         go false p r =
-            let is : out (among i (numbers_of w.table)) ≡ gives (plain.Refused NoNode) w.table = ap out p in
+            let is : out (among i (numbers_of w.table)) ≡ gives (Err NoNode) w.table = ap out p in
             fit (grid_on (out (among i (numbers_of w.table))).answer (encode_grid (drop_column i x)) g) x
-            (ap (λ (o : Outcome Answer). grid_on o.answer (encode_grid (drop_column i x)) g) is ∙ stays) sound
-            (both-columns ∙ sym (ap (λ (o : Outcome Answer). numbers_of o.table) is))
+            (ap (λ (o : Outcome (Result (Unit {0}) Refusal)). grid_on o.answer (encode_grid (drop_column i x)) g) is ∙ stays) sound
+            (both-columns ∙ sym (ap (λ (o : Outcome (Result (Unit {0}) Refusal)). numbers_of o.table) is))
 
     pub out-together : valid_both (lent_column_out i g t).lent.grid (lent_column_out i g t).lent.table ≡ true
     unfolding lent_column_out remove_whole
     out-together =
-        ap (λ (b : Bool). valid_both (pick b (given (remove_whole i w).answer (both (grid_on (remove_whole i w).answer (encode_grid (drop_column i x)) g) (encode_whole (remove_whole i w).lent))) (given (plain.Refused BadTable) (both g t))).lent.grid (pick b (given (remove_whole i w).answer (both (grid_on (remove_whole i w).answer (encode_grid (drop_column i x)) g) (encode_whole (remove_whole i w).lent))) (given (plain.Refused BadTable) (both g t))).lent.table) v
+        ap (λ (b : Bool). valid_both (pick b (given (remove_whole i w).answer (both (grid_on (remove_whole i w).answer (encode_grid (drop_column i x)) g) (encode_whole (remove_whole i w).lent))) (given (Err BadTable) (both g t))).lent.grid (pick b (given (remove_whole i w).answer (both (grid_on (remove_whole i w).answer (encode_grid (drop_column i x)) g) (encode_whole (remove_whole i w).lent))) (given (Err BadTable) (both g t))).lent.table) v
         ∙ goes (remove-keeps-whole w (whole-obeys t both-table) i)
 
   -- ---- a careful removal leaves the nodes
@@ -204,7 +205,7 @@ module _ (g t : Bytes) (v : valid_both g t ≡ true) where
       obeyed = let o = whole-obeys t both-table in same_nodes w o after (remove-keeps (careful_due x now grace) w.table (whole-table w o)) (removed-formed w.kind.profile (careful_due x now grace) w.table (whole-profile w o)) same
 
       go : (b c : Bool)
-          → valid_both g (pick b (pick c (given plain.Done (encode_whole (with_table after w))) (given (plain.Refused NobodyPresent) t)) (given (plain.Refused BadTable) t)).lent ≡ true
+          → valid_both g (pick b (pick c (given done (encode_whole (with_table after w))) (given (Err NobodyPresent) t)) (given (Err BadTable) t)).lent ≡ true
       go true true = ap (λ (l : Bytes). valid_both l (encode_whole (with_table after w))) stays ∙ together x sound (with_table after w) obeyed (both-columns ∙ sym same)
       go true false = v
       go false c = v
@@ -214,17 +215,17 @@ module _ (g t : Bytes) (v : valid_both g t ≡ true) where
 pub in-bad : (i : ℕ) (g t : Bytes) → valid_both g t ≡ false → (lent_column_in i g t).lent ≡ both g t
 unfolding lent_column_in
 in-bad i g t e =
-    ap (λ (b : Bool). (pick b (given (add_whole i (decode_whole t)).answer (both (grid_on (add_whole i (decode_whole t)).answer (encode_grid (add_column i (decode_grid g))) g) (encode_whole (add_whole i (decode_whole t)).lent))) (given (plain.Refused BadTable) (both g t))).lent) e
+    ap (λ (b : Bool). (pick b (given (add_whole i (decode_whole t)).answer (both (grid_on (add_whole i (decode_whole t)).answer (encode_grid (add_column i (decode_grid g))) g) (encode_whole (add_whole i (decode_whole t)).lent))) (given (Err BadTable) (both g t))).lent) e
 
 pub out-bad : (i : ℕ) (g t : Bytes) → valid_both g t ≡ false → (lent_column_out i g t).lent ≡ both g t
 unfolding lent_column_out
 out-bad i g t e =
-    ap (λ (b : Bool). (pick b (given (remove_whole i (decode_whole t)).answer (both (grid_on (remove_whole i (decode_whole t)).answer (encode_grid (drop_column i (decode_grid g))) g) (encode_whole (remove_whole i (decode_whole t)).lent))) (given (plain.Refused BadTable) (both g t))).lent) e
+    ap (λ (b : Bool). (pick b (given (remove_whole i (decode_whole t)).answer (both (grid_on (remove_whole i (decode_whole t)).answer (encode_grid (drop_column i (decode_grid g))) g) (encode_whole (remove_whole i (decode_whole t)).lent))) (given (Err BadTable) (both g t))).lent) e
 
 pub careful-bad : (now grace : ℕ) (g t : Bytes) → valid_both g t ≡ false → (lent_careful now grace g t).lent ≡ t
 unfolding lent_careful
 careful-bad now grace g t e =
-    ap (λ (b : Bool). (pick b (pick (somebody (decode_grid g)) (given plain.Done (encode_whole (with_table (carefully_removed (decode_grid g) now grace (decode_whole t).table) (decode_whole t)))) (given (plain.Refused NobodyPresent) t)) (given (plain.Refused BadTable) t)).lent) e
+    ap (λ (b : Bool). (pick b (pick (somebody (decode_grid g)) (given done (encode_whole (with_table (carefully_removed (decode_grid g) now grace (decode_whole t).table) (decode_whole t)))) (given (Err NobodyPresent) t)) (given (Err BadTable) t)).lent) e
 
 -- ---- calls on a grid alone
 
@@ -232,7 +233,7 @@ pub new-keeps : (t g : Bytes) → valid_whole t ≡ true → valid_grid g ≡ tr
 unfolding lent_new_grid
 new-keeps t g w v = go (eqb (length g) grid_width && valid_whole t)
   where
-    go : (b : Bool) → valid_grid (pick b (given plain.Done (encode_grid (new_grid (numbers_of (decode_whole t).table)))) (given (plain.Refused BadTable) g)).lent ≡ true
+    go : (b : Bool) → valid_grid (pick b (given done (encode_grid (new_grid (numbers_of (decode_whole t).table)))) (given (Err BadTable) g)).lent ≡ true
     go true = let o = whole-table (decode_whole t) (whole-obeys t w) in sound-valid (new_grid (numbers_of (decode_whole t).table)) (table-sound (decode_whole t).table o)
     go false = v
 
@@ -240,7 +241,7 @@ pub tell-keeps : (p edition : ℕ) (digest g : Bytes) → AreBytes digest → va
 unfolding lent_tell
 tell-keeps p edition digest g h v = go (valid_grid g) (ltb p max_peers) (read_digest edition digest) refl
   where
-    go : (b c : Bool) (r : DigestRead) → read_digest edition digest ≡ r → valid_grid (pick b (pick c (tell_on p r g) (given (plain.Refused BadPeer) g)) (given (plain.Refused BadTable) g)).lent ≡ true
+    go : (b c : Bool) (r : DigestRead) → read_digest edition digest ≡ r → valid_grid (pick b (pick c (tell_on p r g) (given (Err BadPeer) g)) (given (Err BadTable) g)).lent ≡ true
     go true true (Entries ds rest) q =
         let small = digest-small edition digest h ds rest q in
         sound-valid (tell_row p ds (decode_grid g)) (tell-sound (decode_grid g) (valid-sound g v) p ds (λ i. (small i).0) (λ i. (small i).1))
@@ -252,7 +253,7 @@ pub take-out-keeps : (p : ℕ) (g : Bytes) → valid_grid g ≡ true → valid_g
 unfolding lent_take_out
 take-out-keeps p g v = go (valid_grid g) (ltb p max_peers)
   where
-    go : (b c : Bool) → valid_grid (pick b (pick c (given plain.Done (encode_grid (take_out p (decode_grid g)))) (given (plain.Refused BadPeer) g)) (given (plain.Refused BadTable) g)).lent ≡ true
+    go : (b c : Bool) → valid_grid (pick b (pick c (given done (encode_grid (take_out p (decode_grid g)))) (given (Err BadPeer) g)) (given (Err BadTable) g)).lent ≡ true
     go true true = sound-valid (take_out p (decode_grid g)) (out-sound (decode_grid g) (valid-sound g v) p)
     go true false = v
     go false c = v

@@ -12,78 +12,66 @@ ghost use Rattle.rules.specs.Layout.{decode, valid};
 ghost use Rattle.table.specs.Fits.{LaidNode};
 ghost use Rattle.heartbeat.specs.Beats.{node_offered, node_beaten};
 
-use rules::{Answer, Heartbeat, Offered, Refusal};
+use rules::{Heartbeat, Refusal};
 use table::layout;
-use table_read::Span;
 
 // A heartbeat offer to a node.
-fn offer_node(node: &mut [u8], got: Heartbeat) -> Offered
+fn offer_node(node: &mut [u8], got: Heartbeat) -> Result<bool, Refusal>
     requires { LaidNode node.old }
     ensures { Gives (node_offered got node.old) result node.new }
 {
     let after = heartbeat_header::offered(table_read::read_header(node), got);
-    let header = after.header;
-    let stored = header.heartbeat;
-    table_write::set_heartbeat(node, stored);
-    if after.news {
-        return Offered::Yes;
-    }
-    Offered::No
+    table_write::set_heartbeat(node, after.header.heartbeat);
+    Ok(after.news)
 }
 
 // A local beat of a node: 6.
-fn beat_node(node: &mut [u8]) -> Answer
+fn beat_node(node: &mut [u8]) -> Result<(), Refusal>
     requires { LaidNode node.old }
     ensures { Gives (node_beaten node.old) result node.new }
 {
     let after = heartbeat_header::raised(table_read::read_header(node));
-    if after.rose {
-        let header = after.header;
-        let stored = header.heartbeat;
-        table_write::set_heartbeat(node, stored);
-        return Answer::Done;
+    if !after.rose {
+        return Err(Refusal::Exhausted);
     }
-    Answer::Refused(Refusal::Exhausted)
+    table_write::set_heartbeat(node, after.header.heartbeat);
+    Ok(())
 }
 
 // A heartbeat offer to a node of a good table: 2.
-pub fn offer_good(table: &mut [u8], number: u64, got: Heartbeat) -> Offered
+pub fn offer_good(table: &mut [u8], number: u64, got: Heartbeat) -> Result<bool, Refusal>
     requires { valid table.old ≡ true }
     ensures { Gives (stored (offer number got (decode table.old))) result table.new }
 {
-    match table_read::node_span(table, number) {
-        Span::Held { start, end } => offer_node(&mut table[start..end], got),
-        Span::Missing => Offered::Refused(Refusal::NoNode),
-    }
+    let span = table_read::node_span(table, number).ok_or(Refusal::NoNode)?;
+    offer_node(&mut table[span.start..span.end], got)
 }
 
 // A local beat of a node of a good table: 2, 6.
-pub fn beat_good(table: &mut [u8], number: u64) -> Answer
+pub fn beat_good(table: &mut [u8], number: u64) -> Result<(), Refusal>
     requires { valid table.old ≡ true }
     ensures { Gives (stored (local_beat number (decode table.old))) result table.new }
 {
-    match table_read::node_span(table, number) {
-        Span::Held { start, end } => beat_node(&mut table[start..end]),
-        Span::Missing => Answer::Refused(Refusal::NoNode),
-    }
+    let span = table_read::node_span(table, number).ok_or(Refusal::NoNode)?;
+    beat_node(&mut table[span.start..span.end])
 }
 
 // A heartbeat offer: 14, 2.
-pub fn offer_heartbeat(table: &mut [u8], number: u64, got: Heartbeat) -> Offered
+pub fn offer_heartbeat(table: &mut [u8], number: u64, got: Heartbeat) -> Result<bool, Refusal>
     ensures { Tells offered_told (lent_offer number got table.old) result table.new }
 {
-    if table_check::check_table(table) {
-        return offer_good(&mut table[..layout::AREA], number, got);
+    if !table_check::check_table(table) {
+        return Err(Refusal::BadTable);
     }
-    Offered::Refused(Refusal::BadTable)
+    offer_good(&mut table[..layout::AREA], number, got)
 }
 
 // A local beat: 14, 2, 6.
-pub fn local_beat(table: &mut [u8], number: u64) -> Answer
+pub fn local_beat(table: &mut [u8], number: u64) -> Result<(), Refusal>
     ensures { Tells answer_told (lent_beat number table.old) result table.new }
 {
-    if table_check::check_table(table) {
-        return beat_good(&mut table[..layout::AREA], number);
+    if !table_check::check_table(table) {
+        return Err(Refusal::BadTable);
     }
-    Answer::Refused(Refusal::BadTable)
+    beat_good(&mut table[..layout::AREA], number)
 }

@@ -11,8 +11,9 @@ use Rattle.rules.specs.Table.{Table, set_node}
 use Rattle.rules.specs.Local.{Outcome, gives, yes_no, offer_on, beat_on}
 use Rattle.rules.specs.declared.Heartbeat.{Heartbeat}
 use Rattle.rules.specs.declared.Header.{Header}
-use Rattle.rules.specs.declared.Answer.{Answer}
-use Rattle.rules.specs.declared.Answer.TheVariants.{Done, Refused}
+use Rattle.std.specs.Prelude.{Err, Ok, Result}
+use Rattle.rules.specs.declared.Refusal.{Refusal}
+use Rattle.rules.specs.Results.{done}
 use Rattle.rules.specs.declared.Refusal.TheVariants.{Exhausted}
 use Rattle.heartbeat_header.specs.Headers.{offered_to, can_rise, raised_of}
 
@@ -22,18 +23,18 @@ module _ (i : ℕ) (n : Node) (h : Header) (e : h.heartbeat ≡ n.heartbeat) (t 
   offer-is got = ap (λ (x : Heartbeat). gives (yes_no (offer_of x got).news) (set_node i (with_heartbeat (offer_of x got).heartbeat n) t)) (sym e)
 
   pub beat-is : beat_on i (some n) t
-      ≡ pick (raised_of h).rose (gives Done (set_node i (with_heartbeat (raised_of h).header.heartbeat n) t)) (gives (Refused Exhausted) t)
+      ≡ pick (raised_of h).rose (gives done (set_node i (with_heartbeat (raised_of h).header.heartbeat n) t)) (gives (Err Exhausted) t)
   unfolding can_rise
   beat-is = ap up (sym e) ∙ go (can_rise h.heartbeat)
     where
-      up : Heartbeat → Outcome Answer
-      up x = pick (can_rise x) (gives Done (set_node i (with_heartbeat (beats (x.0 + 1)) n) t)) (gives (Refused Exhausted) t)
+      up : Heartbeat → Outcome (Result (Unit {0}) Refusal)
+      up x = pick (can_rise x) (gives done (set_node i (with_heartbeat (beats (x.0 + 1)) n) t)) (gives (Err Exhausted) t)
 
       risen : Header
       risen = record { heartbeat = beats (h.heartbeat.0 + 1); max = h.max; last_gc = h.last_gc }
 
       go : (b : Bool)
-          → pick b (gives Done (set_node i (with_heartbeat (beats (h.heartbeat.0 + 1)) n) t)) (gives {A = Answer} (Refused Exhausted) t)
-          ≡ pick b (gives Done (set_node i (with_heartbeat (pick b risen h).heartbeat n) t)) (gives (Refused Exhausted) t)
+          → pick b (gives (Ok _) (set_node i (with_heartbeat (beats (h.heartbeat.0 + 1)) n) t)) (gives {A = (Result (Unit {0}) Refusal)} (Err Exhausted) t)
+          ≡ pick b (gives done (set_node i (with_heartbeat (pick b risen h).heartbeat n) t)) (gives (Err Exhausted) t)
       go true = refl
       go false = refl

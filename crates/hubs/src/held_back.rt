@@ -3,8 +3,9 @@
 // is there again, though every max is equal in the end. The fenced one answers Fenced and stays as it is.
 use crate::{meeting, say};
 use exchange::Exchanged;
+use exchange_ask::Stopped;
 use lookup::Found;
-use rules::{Applied, Computed, Mode, Party, Profile, Status, Written, wire};
+use rules::{DeltaFault, Mode, Party, Profile, Sent, Status, wire};
 use std::io;
 use table::layout;
 
@@ -31,16 +32,18 @@ fn meet(rt: &impl Print, publisher: &[u8], follower: &mut [u8]) -> io::Result<()
     let ties = [0u64; 1];
     let e = meeting::hear(publisher, follower, wire::V0, MTU, &ties, 0, &mut answers);
     match e {
-        Exchanged::Done {
-            ops: _,
-            bytes: _,
-            nodes: _,
-        } => {
+        Ok(
+            Exchanged {
+                ops: _,
+                bytes: _,
+                nodes: _,
+            },
+        ) => {
             say::text(rt, b"  exchange:")?;
             say::answer(rt, answers[0])?;
             say::text(rt, b"\n")
         }
-        Exchanged::Refused { step: _, why } => say::number(rt, b"refused ", why.number()),
+        Err(Stopped { step: _, why }) => say::number(rt, b"refused ", why.number()),
     }
 }
 
@@ -50,44 +53,41 @@ fn send(rt: &impl Print, publisher: &[u8], follower: &[u8], delta: &mut [u8]) ->
     let none = [0u64; 0];
     let ties = [0u64; 1];
     match digest_write::write_digest(follower, wire::V0, &none, &mut digest, 0) {
-        Written::Bytes(_) => {}
-        Written::Refused(r) => say::number(rt, b"refused ", r.number())?,
+        Ok(_) => {}
+        Err(r) => say::number(rt, b"refused ", r.number())?,
     }
     match compute::compute(publisher, wire::V0, &digest, MTU, &none, &ties, delta, 0) {
-        Computed::Delta { ops: _, bytes } => {
+        Ok(Sent { ops: _, bytes }) => {
             say::number(rt, b"  held back: a delta of ", bytes as u64)?
         }
-        Computed::Refused(r) => say::number(rt, b"refused ", r.number())?,
+        Err(r) => say::number(rt, b"refused ", r.number())?,
     }
     say::text(rt, b" bytes\n")
 }
 
 // The delta's bytes, of the room that was lent for it.
 fn front(room: &[u8]) -> &[u8] {
-    if room.len() < LATE {
-        return room;
-    }
-    &room[0..LATE]
+    &room[..LATE.min(room.len())]
 }
 
 fn deliver(rt: &impl Print, follower: &mut [u8], delta: &[u8]) -> io::Result<()> {
     let mut answers = [0u8; 1];
     match apply::apply(follower, delta, 0, &mut answers) {
-        Applied::Nodes(_) => {
+        Ok(_) => {
             say::text(rt, b"  delivered late:")?;
             say::answer(rt, answers[0])?;
             say::text(rt, b"\n")
         }
-        Applied::Refused { why, at: _ } => say::number(rt, b"refused ", why.number()),
+        Err(DeltaFault { why, at: _ }) => say::number(rt, b"refused ", why.number()),
     }
 }
 
 fn say_tariff(rt: &impl Print, name: &[u8], hub: &[u8]) -> io::Result<()> {
     say::text(rt, name)?;
     match lookup::find(hub, Party::Nobody, METER, b"tariff") {
-        Found::At { start: _, len: _ } => say::text(rt, b" has a tariff\n"),
-        Found::Nothing => say::text(rt, b" has no tariff\n"),
-        Found::Refused(r) => say::number(rt, b"refused ", r.number()),
+        Ok(Some(Found { start: _, len: _ })) => say::text(rt, b" has a tariff\n"),
+        Ok(None) => say::text(rt, b" has no tariff\n"),
+        Err(r) => say::number(rt, b"refused ", r.number()),
     }
 }
 

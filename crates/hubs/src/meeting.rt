@@ -1,5 +1,6 @@
 // One hub hears another: its digest, the other's delta, applied. Nothing is left out.
 use exchange::Exchanged;
+use exchange_ask::Stopped;
 use rules::{sizes, wire};
 
 // The longest digest.
@@ -17,7 +18,7 @@ pub fn hear(
     ties: &[u64],
     clock: u64,
     answers: &mut [u8],
-) -> Exchanged {
+) -> Result<Exchanged, Stopped> {
     let mut digest = [0u8; DIGEST];
     let mut delta = [0u8; DELTA];
     let none = [0u64; 0];

@@ -1,5 +1,5 @@
 // What the stories print.
-use rules::Answer;
+use rules::Refusal;
 use std::io;
 
 pub fn text(rt: &impl Print, line: &[u8]) -> io::Result<()> {
@@ -12,26 +12,22 @@ pub fn number(rt: &impl Print, name: &[u8], n: u64) -> io::Result<()> {
 }
 
 // A refused call would be told; none here is.
-pub fn done(rt: &impl Print, a: Answer) -> io::Result<()> {
+pub fn done(rt: &impl Print, a: Result<(), Refusal>) -> io::Result<()> {
     match a {
-        Answer::Done => Ok(()),
-        Answer::Refused(r) => number(rt, b"refused ", r.number()),
+        Ok(()) => Ok(()),
+        Err(r) => number(rt, b"refused ", r.number()),
     }
 }
 
 // What a node answered to its part of a delta.
 pub fn answer(rt: &impl Print, code: u8) -> io::Result<()> {
-    if code == 0 {
-        text(rt, b" reject")
-    } else if code == 1 {
-        text(rt, b" apply")
-    } else if code == 2 {
-        text(rt, b" reset")
-    } else if code == 3 {
-        text(rt, b" room")
-    } else if code == 4 {
-        text(rt, b" unknown")
-    } else {
-        text(rt, b" fenced")
-    }
+    let said = match code {
+        0 => " reject",
+        1 => " apply",
+        2 => " reset",
+        3 => " room",
+        4 => " unknown",
+        _ => " fenced",
+    };
+    rt.print(said)
 }

@@ -3,7 +3,8 @@
 // or guarded G is in a reset that F's delta is older than; it answers Fenced, and ends as P is.
 use crate::{meeting, say};
 use exchange::Exchanged;
-use inspect::{NodeHeader, RecordRead};
+use exchange_ask::Stopped;
+use inspect::RecordRead;
 use inspect_text::Text;
 use rules::{Mode, Party, Profile, Status, wire};
 use std::io;
@@ -24,11 +25,15 @@ fn open(rt: &impl Print, hub: &mut [u8], mode: Mode) -> io::Result<()> {
 
 // A record's key and version.
 fn say_record(rt: &impl Print, hub: &[u8], j: usize) -> io::Result<()> {
-    if let RecordRead::Is {
-        key: _,
-        value: _,
-        record: r,
-    } = inspect::record_at(hub, Party::Nobody, METER, j)
+    if let Ok(
+        Some(
+            RecordRead {
+                key: _,
+                value: _,
+                record: r,
+            },
+        ),
+    ) = inspect::record_at(hub, Party::Nobody, METER, j)
     {
         say::text(rt, b" ")?;
         say::text(
@@ -43,7 +48,7 @@ fn say_record(rt: &impl Print, hub: &[u8], j: usize) -> io::Result<()> {
 // last_gc and max, and the two records that it may have.
 fn say_hub(rt: &impl Print, name: &[u8], hub: &[u8]) -> io::Result<()> {
     say::text(rt, name)?;
-    if let NodeHeader::Is(h) = inspect::node_header(hub, METER) {
+    if let Ok(h) = inspect::node_header(hub, METER) {
         say::number(rt, b" (", h.last_gc)?;
         say::number(rt, b",", h.max)?;
         say::text(rt, b")")?;
@@ -61,15 +66,17 @@ fn hear(rt: &impl Print, name: &[u8], other: &[u8], hub: &mut [u8]) -> io::Resul
     let e = meeting::hear(other, hub, wire::V0, MTU, &ties, 0, &mut answers);
     say::text(rt, name)?;
     match e {
-        Exchanged::Done {
-            ops: _,
-            bytes: _,
-            nodes: _,
-        } => {
+        Ok(
+            Exchanged {
+                ops: _,
+                bytes: _,
+                nodes: _,
+            },
+        ) => {
             say::answer(rt, answers[0])?;
             say::text(rt, b"\n")
         }
-        Exchanged::Refused { step: _, why } => say::number(rt, b" refused ", why.number()),
+        Err(Stopped { step: _, why }) => say::number(rt, b" refused ", why.number()),
     }
 }
 

@@ -3,8 +3,8 @@
 // removed before the second hub hears of it: they do not come back.
 use crate::{meeting, say};
 use exchange::Exchanged;
-use exchange_ask::Step;
-use inspect::{Count, NodeHeader, RecordRead};
+use exchange_ask::{Step, Stopped};
+use inspect::RecordRead;
 use inspect_text::Text;
 use rules::{Header, Mode, Party, Profile, Refusal, Status, sizes, wire};
 use std::io;
@@ -85,10 +85,10 @@ fn second_day(rt: &impl Print, hub: &mut [u8]) -> io::Result<()> {
 
 // ---- what a hub holds
 
-fn count(c: Count) -> u64 {
+fn count(c: Result<usize, Refusal>) -> u64 {
     match c {
-        Count::Are(n) => n as u64,
-        Count::Refused(_) => 0,
+        Ok(n) => n as u64,
+        Err(_) => 0,
     }
 }
 
@@ -103,8 +103,8 @@ fn holdings(hub: &[u8]) -> u64 {
 
 fn max_of(hub: &[u8], number: u64) -> u64 {
     match inspect::node_header(hub, number) {
-        NodeHeader::Is(h) => h.max,
-        NodeHeader::Refused(_) => 0,
+        Ok(h) => h.max,
+        Err(_) => 0,
     }
 }
 
@@ -120,11 +120,15 @@ fn agree(a: &[u8], b: &[u8]) -> bool {
 
 // A Set record, as node, key, value and version.
 fn say_record(rt: &impl Print, hub: &[u8], number: u64, j: usize) -> io::Result<()> {
-    if let RecordRead::Is {
-        key: _,
-        value: _,
-        record: r,
-    } = inspect::record_at(hub, Party::Nobody, number, j)
+    if let Ok(
+        Some(
+            RecordRead {
+                key: _,
+                value: _,
+                record: r,
+            },
+        ),
+    ) = inspect::record_at(hub, Party::Nobody, number, j)
     {
         let status = r.status;
         if let Status::Set = status {
@@ -147,10 +151,8 @@ fn say_record(rt: &impl Print, hub: &[u8], number: u64, j: usize) -> io::Result<
 }
 
 fn say_node(rt: &impl Print, hub: &[u8], number: u64) -> io::Result<()> {
-    let mut j = 0;
-    while j < Header::RECORDS {
+    for j in 0..Header::RECORDS {
         say_record(rt, hub, number, j)?;
-        j += 1;
     }
     Ok(())
 }
@@ -163,12 +165,8 @@ fn say_hub(rt: &impl Print, name: &[u8], hub: &[u8]) -> io::Result<()> {
 }
 
 fn say_answers(rt: &impl Print, answers: &[u8], n: usize) -> io::Result<()> {
-    let mut i = 0;
-    while i < answers.len() {
-        if i < n {
-            say::answer(rt, answers[i])?;
-        }
-        i += 1;
+    for code in answers.iter().take(n) {
+        say::answer(rt, *code)?;
     }
     say::text(rt, b"\n")
 }
@@ -183,16 +181,21 @@ fn say_refused(rt: &impl Print, step: Step, why: Refusal) -> io::Result<()> {
     say::text(rt, b"\n")
 }
 
-fn say_exchange(rt: &impl Print, i: u64, e: Exchanged, answers: &[u8]) -> io::Result<()> {
+fn say_exchange(
+    rt: &impl Print,
+    i: u64,
+    e: Result<Exchanged, Stopped>,
+    answers: &[u8],
+) -> io::Result<()> {
     say::number(rt, b"exchange ", i)?;
     match e {
-        Exchanged::Done { ops, bytes, nodes } => {
+        Ok(Exchanged { ops, bytes, nodes }) => {
             say::number(rt, b": ops=", ops as u64)?;
             say::number(rt, b" bytes=", bytes as u64)?;
             say::text(rt, b" answers:")?;
             say_answers(rt, answers, nodes)
         }
-        Exchanged::Refused { step, why } => say_refused(rt, step, why),
+        Err(Stopped { step, why }) => say_refused(rt, step, why),
     }
 }
 
@@ -228,15 +231,13 @@ fn catch_up(
     clock: u64,
     most: u64,
 ) -> io::Result<u64> {
-    let mut i: u64 = 0;
-    while i < most {
+    for i in 0..most {
         if agree(publisher, follower) {
             return Ok(i);
         }
-        i += 1;
-        step(rt, i, publisher, follower, clock)?;
+        step(rt, i + 1, publisher, follower, clock)?;
     }
-    Ok(i)
+    Ok(most)
 }
 
 fn meet(rt: &impl Print, publisher: &[u8], follower: &mut [u8], clock: u64) -> io::Result<()> {

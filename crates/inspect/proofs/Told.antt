@@ -11,43 +11,37 @@ use Rattle.rules.specs.declared.Header.{Header}
 use Rattle.rules.specs.declared.Record.{Record}
 use Rattle.rules.proofs.Told.{number_is, value-is, values-long, need-is, not-refused, same-refusal}
 use Rattle.inspect.specs.Told.{count_told, node_number_told, node_header_told, record_read_told, rows_told}
-use Rattle.inspect.specs.declared.Count.{Count}
-use Rattle.inspect.specs.declared.Count.TheVariants as count
-use Rattle.inspect.specs.declared.NodeNumber.{NodeNumber}
-use Rattle.inspect.specs.declared.NodeNumber.TheVariants as number
-use Rattle.inspect.specs.declared.NodeHeader.{NodeHeader}
-use Rattle.inspect.specs.declared.NodeHeader.TheVariants as header
+use Rattle.std.specs.Prelude.{Err, None, Ok, Option, Result, Some}
 use Rattle.inspect.specs.declared.RecordRead.{RecordRead}
-use Rattle.inspect.specs.declared.RecordRead.TheVariants as rec
 use Rattle.inspect.specs.declared.Rows.{Rows}
-use Rattle.inspect.specs.declared.Rows.TheVariants as rows
+use Rattle.rules.specs.declared.Refusal.{Refusal}
 
-pub same_count : (a b : Count) → count_told a ≡ count_told b → a ≡ b
+pub same_count : (a b : (Result ℕ Refusal)) → count_told a ≡ count_told b → a ≡ b
 unfolding count_told
-same_count (count.Are n) (count.Are m) e = ap count.Are (value-is e 0)
-same_count (count.Are n) (count.Refused r) e = not-refused r (number_is e)
-same_count (count.Refused r) (count.Are n) e = not-refused r (sym (number_is e))
-same_count (count.Refused r) (count.Refused s) e = ap count.Refused (same-refusal r s (number_is e) (need-is e))
+same_count (Ok n) (Ok m) e = ap Ok (value-is e 0)
+same_count (Ok n) (Err r) e = not-refused r (number_is e)
+same_count (Err r) (Ok n) e = not-refused r (sym (number_is e))
+same_count (Err r) (Err s) e = ap Err (same-refusal r s (number_is e) (need-is e))
 
-pub same-node-number : (a b : NodeNumber) → node_number_told a ≡ node_number_told b → a ≡ b
+pub same-node-number : (a b : (Result ℕ Refusal)) → node_number_told a ≡ node_number_told b → a ≡ b
 unfolding node_number_told
-same-node-number (number.Is n) (number.Is m) e = ap number.Is (value-is e 0)
-same-node-number (number.Is n) (number.Refused r) e = not-refused r (number_is e)
-same-node-number (number.Refused r) (number.Is n) e = not-refused r (sym (number_is e))
-same-node-number (number.Refused r) (number.Refused s) e = ap number.Refused (same-refusal r s (number_is e) (need-is e))
+same-node-number (Ok n) (Ok m) e = ap Ok (value-is e 0)
+same-node-number (Ok n) (Err r) e = not-refused r (number_is e)
+same-node-number (Err r) (Ok n) e = not-refused r (sym (number_is e))
+same-node-number (Err r) (Err s) e = ap Err (same-refusal r s (number_is e) (need-is e))
 
 -- a header by its numbers
 abbrev headed : ℕ → ℕ → ℕ → Header
 headed h m g = record { heartbeat = beats h; max = m; last_gc = g }
 
-pub same-node-header : (a b : NodeHeader) → node_header_told a ≡ node_header_told b → a ≡ b
+pub same-node-header : (a b : (Result Header Refusal)) → node_header_told a ≡ node_header_told b → a ≡ b
 unfolding node_header_told
-same-node-header (header.Is h) (header.Is k) e =
-    ap₂ (λ (x y : ℕ). header.Is (headed x y h.last_gc)) (value-is e 0) (value-is e 1)
-    ∙ ap (λ (x : ℕ). header.Is (headed k.heartbeat.0 k.max x)) (value-is e 2)
-same-node-header (header.Is h) (header.Refused r) e = not-refused r (number_is e)
-same-node-header (header.Refused r) (header.Is h) e = not-refused r (sym (number_is e))
-same-node-header (header.Refused r) (header.Refused s) e = ap header.Refused (same-refusal r s (number_is e) (need-is e))
+same-node-header (Ok h) (Ok k) e =
+    ap₂ (λ (x y : ℕ). Ok (headed x y h.last_gc)) (value-is e 0) (value-is e 1)
+    ∙ ap (λ (x : ℕ). Ok (headed k.heartbeat.0 k.max x)) (value-is e 2)
+same-node-header (Ok h) (Err r) e = not-refused r (number_is e)
+same-node-header (Err r) (Ok h) e = not-refused r (sym (number_is e))
+same-node-header (Err r) (Err s) e = ap Err (same-refusal r s (number_is e) (need-is e))
 
 -- a status by its byte
 status-back : (s : Status) → status_of_byte (status_byte s) ≡ s
@@ -59,26 +53,28 @@ status-back Ttl = refl
 abbrev numbered : ℕ → ℕ → ℕ → Status → ℕ → Record
 numbered k v n s t = record { keylen = k; valuelen = v; version = n; status = s; start = t }
 
-pub same-record : (a b : RecordRead) → record_read_told a ≡ record_read_told b → a ≡ b
+pub same-record : (a b : (Result (Option RecordRead) Refusal)) → record_read_told a ≡ record_read_told b → a ≡ b
 unfolding record_read_told
-same-record (rec.Is k v r) (rec.Is l w q) e =
+same-record (Ok (Some a)) (Ok (Some b)) e =
+    let r = a.«record» in
+    let q = b.«record» in
     let s : r.status ≡ q.status = sym (status-back r.status) ∙ ap status_of_byte (value-is e 5) ∙ status-back q.status in
-    ap₂ (λ (x y : ℕ). rec.Is x y (numbered r.keylen r.valuelen r.version r.status r.start)) (value-is e 0) (value-is e 1)
-    ∙ ap₂ (λ (x y : ℕ). rec.Is l w (numbered x y r.version r.status r.start)) (value-is e 2) (value-is e 3)
-    ∙ ap₂ (λ (x : ℕ) (y : Status). rec.Is l w (numbered q.keylen q.valuelen x y r.start)) (value-is e 4) s
-    ∙ ap (λ (x : ℕ). rec.Is l w (numbered q.keylen q.valuelen q.version q.status x)) (value-is e 6)
-same-record (rec.Is k v r) rec.Nothing e = absurd (omega (arith, values-long e))
-same-record rec.Nothing (rec.Is k v r) e = absurd (omega (arith, values-long e))
-same-record rec.Nothing rec.Nothing e = refl
-same-record (rec.Is k v q) (rec.Refused r) e = not-refused r (number_is e)
-same-record rec.Nothing (rec.Refused r) e = not-refused r (number_is e)
-same-record (rec.Refused r) (rec.Is k v q) e = not-refused r (sym (number_is e))
-same-record (rec.Refused r) rec.Nothing e = not-refused r (sym (number_is e))
-same-record (rec.Refused r) (rec.Refused s) e = ap rec.Refused (same-refusal r s (number_is e) (need-is e))
+    ap₂ (λ (x y : ℕ). (Ok (Some (record { key = x; value = y; «record» = (numbered r.keylen r.valuelen r.version r.status r.start) })))) (value-is e 0) (value-is e 1)
+    ∙ ap₂ (λ (x y : ℕ). (Ok (Some (record { key = b.key; value = b.value; «record» = (numbered x y r.version r.status r.start) })))) (value-is e 2) (value-is e 3)
+    ∙ ap₂ (λ (x : ℕ) (y : Status). (Ok (Some (record { key = b.key; value = b.value; «record» = (numbered q.keylen q.valuelen x y r.start) })))) (value-is e 4) s
+    ∙ ap (λ (x : ℕ). (Ok (Some (record { key = b.key; value = b.value; «record» = (numbered q.keylen q.valuelen q.version q.status x) })))) (value-is e 6)
+same-record (Ok (Some r)) (Ok None) e = absurd (omega (arith, values-long e))
+same-record (Ok None) (Ok (Some r)) e = absurd (omega (arith, values-long e))
+same-record (Ok None) (Ok None) e = refl
+same-record (Ok (Some rr)) (Err r) e = not-refused r (number_is e)
+same-record (Ok None) (Err r) e = not-refused r (number_is e)
+same-record (Err r) (Ok (Some rr)) e = not-refused r (sym (number_is e))
+same-record (Err r) (Ok None) e = not-refused r (sym (number_is e))
+same-record (Err r) (Err s) e = ap Err (same-refusal r s (number_is e) (need-is e))
 
-pub same_rows : (a b : Rows) → rows_told a ≡ rows_told b → a ≡ b
+pub same_rows : (a b : (Result Rows Refusal)) → rows_told a ≡ rows_told b → a ≡ b
 unfolding rows_told
-same_rows (rows.Are a n) (rows.Are b m) e = ap₂ rows.Are (value-is e 0) (value-is e 1)
-same_rows (rows.Are a n) (rows.Refused r) e = not-refused r (number_is e)
-same_rows (rows.Refused r) (rows.Are a n) e = not-refused r (sym (number_is e))
-same_rows (rows.Refused r) (rows.Refused s) e = ap rows.Refused (same-refusal r s (number_is e) (need-is e))
+same_rows (Ok r) (Ok rr) e = ap₂ (λ a b. Ok (record { at = a; count = b })) (value-is e 0) (value-is e 1)
+same_rows (Ok rr) (Err r) e = not-refused r (number_is e)
+same_rows (Err r) (Ok rr) e = not-refused r (sym (number_is e))
+same_rows (Err r) (Err s) e = ap Err (same-refusal r s (number_is e) (need-is e))

@@ -23,134 +23,106 @@ ghost use Rattle.inspect.specs.Told.{count_told, node_number_told, node_header_t
 
 use rules::{Header, Party, Profile, Record, Refusal};
 use table::layout;
-use table_read::{Place, Span};
+use table_read::Place;
 
-// How many there are.
+// A record of a lent table: its key is the bytes from `key` on, its value those from `value` on.
 #[derive(Clone, Copy)]
-pub enum Count {
-    Are(usize),
-    Refused(Refusal),
+pub struct RecordRead {
+    pub key: usize,
+    pub value: usize,
+    pub record: Record,
 }
 
-// The number under which a node is held.
+// Where rows of a node stand in the bytes of a lent table, one behind the other, and how many.
 #[derive(Clone, Copy)]
-pub enum NodeNumber {
-    Is(u64),
-    Refused(Refusal),
-}
-
-// A node's heartbeat, max and last_gc.
-#[derive(Clone, Copy)]
-pub enum NodeHeader {
-    Is(Header),
-    Refused(Refusal),
-}
-
-// A record: where its key and its value begin in the lent table, their lengths, its version, status and start.
-#[derive(Clone, Copy)]
-pub enum RecordRead {
-    Is {
-        key: usize,
-        value: usize,
-        record: Record,
-    },
-    // No such key.
-    Nothing,
-    Refused(Refusal),
-}
-
-// Records of a node in one piece: where the first of them begins in the lent table, and how many there are. Each has its width there, one behind the other.
-#[derive(Clone, Copy)]
-pub enum Rows {
-    Are { at: usize, count: usize },
-    Refused(Refusal),
+pub struct Rows {
+    pub at: usize,
+    pub count: usize,
 }
 
 // How many nodes a good table holds.
-pub fn node_count_good(table: &[u8]) -> Count
+pub fn node_count_good(table: &[u8]) -> Result<usize, Refusal>
     requires { valid table.now ≡ true }
     ensures { result ≡ node_count (decode table.now) }
 {
-    Count::Are(fields::byte_at(table, layout::NODE_COUNT))
+    Ok(fields::byte_at(table, layout::NODE_COUNT))
 }
 
 // How many nodes are held: 14.
-pub fn node_count(table: &[u8]) -> Count
+pub fn node_count(table: &[u8]) -> Result<usize, Refusal>
     ensures { Says count_told (lent_node_count table.now) result }
 {
-    if table_check::check_table(table) {
-        node_count_good(&table[..layout::AREA])
-    } else {
-        Count::Refused(Refusal::BadTable)
+    if !table_check::check_table(table) {
+        return Err(Refusal::BadTable);
     }
+    node_count_good(&table[..layout::AREA])
 }
 
 // The number of the node in place `i` of a good table: 8.
-pub fn node_number_good(table: &[u8], i: usize) -> NodeNumber
+pub fn node_number_good(table: &[u8], i: usize) -> Result<u64, Refusal>
     requires { valid table.now ≡ true }
     ensures { result ≡ node_number i (decode table.now) }
 {
     let n = fields::byte_at(table, layout::NODE_COUNT);
     if n <= i {
-        return NodeNumber::Refused(Refusal::NoPlace);
+        return Err(Refusal::NoPlace);
     }
-    NodeNumber::Is(fields::read_u64(table, table::node_place(i)))
+    Ok(fields::read_u64(table, table::node_place(i)))
 }
 
 // The number of the node in place `i`: 14, 8.
-pub fn node_number(table: &[u8], i: usize) -> NodeNumber
+pub fn node_number(table: &[u8], i: usize) -> Result<u64, Refusal>
     ensures { Says node_number_told (lent_node_number i table.now) result }
 {
-    if table_check::check_table(table) {
-        node_number_good(&table[..layout::AREA], i)
-    } else {
-        NodeNumber::Refused(Refusal::BadTable)
+    if !table_check::check_table(table) {
+        return Err(Refusal::BadTable);
     }
+    node_number_good(&table[..layout::AREA], i)
 }
 
 // The header of a node of a good table: 2.
-pub fn node_header_good(table: &[u8], number: u64) -> NodeHeader
+pub fn node_header_good(table: &[u8], number: u64) -> Result<Header, Refusal>
     requires { valid table.now ≡ true }
     ensures { result ≡ node_header number (decode table.now) }
 {
-    match table_read::node_span(table, number) {
-        Span::Held { start, end } => NodeHeader::Is(table_read::read_header(&table[start..end])),
-        Span::Missing => NodeHeader::Refused(Refusal::NoNode),
-    }
+    let span = table_read::node_span(table, number).ok_or(Refusal::NoNode)?;
+    Ok(table_read::read_header(&table[span.start..span.end]))
 }
 
 // The header of a node: 14, 2.
-pub fn node_header(table: &[u8], number: u64) -> NodeHeader
+pub fn node_header(table: &[u8], number: u64) -> Result<Header, Refusal>
     ensures { Says node_header_told (lent_node_header number table.now) result }
 {
-    if table_check::check_table(table) {
-        node_header_good(&table[..layout::AREA], number)
-    } else {
-        NodeHeader::Refused(Refusal::BadTable)
+    if !table_check::check_table(table) {
+        return Err(Refusal::BadTable);
     }
+    node_header_good(&table[..layout::AREA], number)
 }
 
 // How many records of a node's bytes a party sees.
-fn count_in(node: &[u8], profile: Profile, party: Party) -> Count
+fn count_in(node: &[u8], profile: Profile, party: Party) -> Result<usize, Refusal>
     requires { LaidNode node.now × (keys_rise (recs_in node.now) ≡ true) × (recs_formed profile (recs_in node.now) ≡ true) }
     ensures { result ≡ records_on (seen_held profile party (some (decode_node node.now).node)) }
 {
-    Count::Are(own_rows::sight_of(node, profile, party).count)
+    Ok(own_rows::sight_of(node, profile, party).count)
 }
 
 // How many records a party sees of a node, tombstones counted, in the area of a good table of this profile: 2.
-fn record_count_as(area: &[u8], profile: Profile, party: Party, number: u64) -> Count
+fn record_count_as(
+    area: &[u8],
+    profile: Profile,
+    party: Party,
+    number: u64,
+) -> Result<usize, Refusal>
     requires { (valid area.now ≡ true) × (profile_obeys profile (decode area.now) ≡ true) }
     ensures { result ≡ record_count_as profile party number (decode area.now) }
 {
-    match table_read::node_span(area, number) {
-        Span::Held { start, end } => count_in(&area[start..end], profile, party),
-        Span::Missing => Count::Refused(Refusal::NoNode),
-    }
+    let span = table_read::node_span(area, number).ok_or(Refusal::NoNode)?;
+    count_in(&area[span.start..span.end], profile, party)
 }
 
 // How many records a party sees of a node, tombstones counted, in a good table: 2.
-pub fn record_count_known(table: &[u8], party: Party, number: u64) -> Count
+pub fn record_count_known(table: &[u8], party: Party, number: u64) -> Result<usize, Refusal>
     requires { valid_whole table.now ≡ true }
     ensures { result ≡ record_count_as (decode_whole table.now).kind.profile party number (decode (area_of table.now)) }
 {
@@ -159,37 +131,34 @@ pub fn record_count_known(table: &[u8], party: Party, number: u64) -> Count
 }
 
 // How many records a party sees of a node, tombstones counted: 14, 2.
-pub fn record_count(table: &[u8], party: Party, number: u64) -> Count
+pub fn record_count(table: &[u8], party: Party, number: u64) -> Result<usize, Refusal>
     ensures { Says count_told (lent_record_count party number table.now) result }
 {
-    if table_check::check_table(table) {
-        record_count_known(table, party, number)
-    } else {
-        Count::Refused(Refusal::BadTable)
+    if !table_check::check_table(table) {
+        return Err(Refusal::BadTable);
     }
+    record_count_known(table, party, number)
 }
 
 // How many bytes stand before the records that a party sees of a node's bytes, and are not told to it.
-fn front_in(node: &[u8], profile: Profile, party: Party) -> Count
+fn front_in(node: &[u8], profile: Profile, party: Party) -> Result<usize, Refusal>
     requires { LaidNode node.now × (keys_rise (recs_in node.now) ≡ true) × (recs_formed profile (recs_in node.now) ≡ true) }
     ensures { result ≡ front_told profile party (some (decode_node node.now).node) }
 {
-    Count::Are(fields::times(own_rows::sight_of(node, profile, party).low, layout::RECORD))
+    Ok(fields::times(own_rows::sight_of(node, profile, party).low, layout::RECORD))
 }
 
 // How many bytes further back than is told stand the records that a party sees of a node, in the area of a good table of this profile: 2.
-fn front_as(area: &[u8], profile: Profile, party: Party, number: u64) -> Count
+fn front_as(area: &[u8], profile: Profile, party: Party, number: u64) -> Result<usize, Refusal>
     requires { (valid area.now ≡ true) × (profile_obeys profile (decode area.now) ≡ true) }
     ensures { result ≡ front_as profile party number (decode area.now) }
 {
-    match table_read::node_span(area, number) {
-        Span::Held { start, end } => front_in(&area[start..end], profile, party),
-        Span::Missing => Count::Refused(Refusal::NoNode),
-    }
+    let span = table_read::node_span(area, number).ok_or(Refusal::NoNode)?;
+    front_in(&area[span.start..span.end], profile, party)
 }
 
 // How many bytes further back than is told stand the records that a party sees of a node, in a good table: 2.
-pub fn front_known(table: &[u8], party: Party, number: u64) -> Count
+pub fn front_known(table: &[u8], party: Party, number: u64) -> Result<usize, Refusal>
     requires { valid_whole table.now ≡ true }
     ensures { result ≡ front_as (decode_whole table.now).kind.profile party number (decode (area_of table.now)) }
 {
@@ -198,40 +167,37 @@ pub fn front_known(table: &[u8], party: Party, number: u64) -> Count
 }
 
 // How many bytes further back than is told stand the records that a party sees of a node: 14, 2.
-pub fn front(table: &[u8], party: Party, number: u64) -> Count
+pub fn front(table: &[u8], party: Party, number: u64) -> Result<usize, Refusal>
     ensures { Says count_told (lent_front party number table.now) result }
 {
-    if table_check::check_table(table) {
-        front_known(table, party, number)
-    } else {
-        Count::Refused(Refusal::BadTable)
+    if !table_check::check_table(table) {
+        return Err(Refusal::BadTable);
     }
+    front_known(table, party, number)
 }
 
 // The records of a node's bytes that a party sees, in one piece; they begin at `start` in the table.
-fn rows_in(node: &[u8], start: usize, profile: Profile, party: Party) -> Rows
+fn rows_in(node: &[u8], start: usize, profile: Profile, party: Party) -> Result<Rows, Refusal>
     requires { LaidNode node.now × (keys_rise (recs_in node.now) ≡ true) × (recs_formed profile (recs_in node.now) ≡ true) × (start ≤ table_width) }
     ensures { result ≡ rows_on start (seen_held profile party (some (decode_node node.now).node)) }
 {
-    Rows::Are {
+    Ok(Rows {
         at: start + layout::RECORDS,
         count: own_rows::sight_of(node, profile, party).count,
-    }
+    })
 }
 
 // The records that a party sees of a node, in one piece, tombstones too, in the area of a good table of this profile: 2.
-fn node_rows_as(area: &[u8], profile: Profile, party: Party, number: u64) -> Rows
+fn node_rows_as(area: &[u8], profile: Profile, party: Party, number: u64) -> Result<Rows, Refusal>
     requires { (valid area.now ≡ true) × (profile_obeys profile (decode area.now) ≡ true) }
     ensures { result ≡ node_rows_as profile party number (decode area.now) }
 {
-    match table_read::node_span(area, number) {
-        Span::Held { start, end } => rows_in(&area[start..end], start, profile, party),
-        Span::Missing => Rows::Refused(Refusal::NoNode),
-    }
+    let span = table_read::node_span(area, number).ok_or(Refusal::NoNode)?;
+    rows_in(&area[span.start..span.end], span.start, profile, party)
 }
 
 // The records that a party sees of a node, in one piece, tombstones too, in a good table: 2.
-pub fn node_rows_known(table: &[u8], party: Party, number: u64) -> Rows
+pub fn node_rows_known(table: &[u8], party: Party, number: u64) -> Result<Rows, Refusal>
     requires { valid_whole table.now ≡ true }
     ensures { result ≡ node_rows_as (decode_whole table.now).kind.profile party number (decode (area_of table.now)) }
 {
@@ -240,55 +206,69 @@ pub fn node_rows_known(table: &[u8], party: Party, number: u64) -> Rows
 }
 
 // The records that a party sees of a node, in one piece, tombstones too: 14, 2.
-pub fn node_rows(table: &[u8], party: Party, number: u64) -> Rows
+pub fn node_rows(table: &[u8], party: Party, number: u64) -> Result<Rows, Refusal>
     ensures { Says rows_told (lent_node_rows party number table.now) result }
 {
-    if table_check::check_table(table) {
-        node_rows_known(table, party, number)
-    } else {
-        Rows::Refused(Refusal::BadTable)
+    if !table_check::check_table(table) {
+        return Err(Refusal::BadTable);
     }
+    node_rows_known(table, party, number)
 }
 
 // Record `j` of a node's bytes, which begin at `start` in the table. Its places are told less the `low` records before it that are not seen.
-fn placed(node: &[u8], start: usize, low: usize, j: usize) -> RecordRead
+fn placed(node: &[u8], start: usize, low: usize, j: usize) -> Result<Option<RecordRead>, Refusal>
     requires { LaidNode node.now × (start ≤ table_width) × (low ≤ j) × (j < count_of node.now) }
     ensures { result ≡ read_rec start (j - low) (decode_rec (part (rec_place j) rec_width node.now)) }
 {
     let r = table_read::read_record(table::record_of(node, j));
     let at = start + table::record_place(j - low);
-    RecordRead::Is {
+    Ok(Some(RecordRead {
         key: at + layout::KEY,
         value: at + layout::VALUE,
         record: r,
-    }
+    }))
 }
 
 // The record in place `j` of those that a party sees of a node's bytes, which begin at `start` in the table: 8.
-fn record_in(node: &[u8], start: usize, profile: Profile, party: Party, j: usize) -> RecordRead
+fn record_in(
+    node: &[u8],
+    start: usize,
+    profile: Profile,
+    party: Party,
+    j: usize,
+) -> Result<Option<RecordRead>, Refusal>
     requires { LaidNode node.now × (keys_rise (recs_in node.now) ≡ true) × (recs_formed profile (recs_in node.now) ≡ true) × (start ≤ table_width) }
     ensures { result ≡ record_on j start (seen_held profile party (some (decode_node node.now).node)) }
 {
     let sight = own_rows::sight_of(node, profile, party);
     if sight.count <= j {
-        return RecordRead::Refused(Refusal::NoPlace);
+        return Err(Refusal::NoPlace);
     }
     placed(node, start, sight.low, sight.low + j)
 }
 
 // The record in place `j` of those that a party sees of a node, in the area of a good table of this profile: 2, 8.
-fn record_at_as(area: &[u8], profile: Profile, party: Party, number: u64, j: usize) -> RecordRead
+fn record_at_as(
+    area: &[u8],
+    profile: Profile,
+    party: Party,
+    number: u64,
+    j: usize,
+) -> Result<Option<RecordRead>, Refusal>
     requires { (valid area.now ≡ true) × (profile_obeys profile (decode area.now) ≡ true) }
     ensures { result ≡ read_record_as profile party number j (decode area.now) }
 {
-    match table_read::node_span(area, number) {
-        Span::Held { start, end } => record_in(&area[start..end], start, profile, party, j),
-        Span::Missing => RecordRead::Refused(Refusal::NoNode),
-    }
+    let span = table_read::node_span(area, number).ok_or(Refusal::NoNode)?;
+    record_in(&area[span.start..span.end], span.start, profile, party, j)
 }
 
 // The record in place `j` of those that a party sees of a node, in a good table: 2, 8.
-pub fn record_at_known(table: &[u8], party: Party, number: u64, j: usize) -> RecordRead
+pub fn record_at_known(
+    table: &[u8],
+    party: Party,
+    number: u64,
+    j: usize,
+) -> Result<Option<RecordRead>, Refusal>
     requires { valid_whole table.now ≡ true }
     ensures { result ≡ read_record_as (decode_whole table.now).kind.profile party number j (decode (area_of table.now)) }
 {
@@ -297,24 +277,34 @@ pub fn record_at_known(table: &[u8], party: Party, number: u64, j: usize) -> Rec
 }
 
 // The record in place `j` of those that a party sees of a node: 14, 2, 8.
-pub fn record_at(table: &[u8], party: Party, number: u64, j: usize) -> RecordRead
+pub fn record_at(
+    table: &[u8],
+    party: Party,
+    number: u64,
+    j: usize,
+) -> Result<Option<RecordRead>, Refusal>
     ensures { Says record_read_told (lent_read_record party number j table.now) result }
 {
-    if table_check::check_table(table) {
-        record_at_known(table, party, number, j)
-    } else {
-        RecordRead::Refused(Refusal::BadTable)
+    if !table_check::check_table(table) {
+        return Err(Refusal::BadTable);
     }
+    record_at_known(table, party, number, j)
 }
 
 // The record in place `j` of those that a party sees of the node in place `i`, in the area of a good table of this profile: 8.
-fn record_of_as(area: &[u8], profile: Profile, party: Party, i: usize, j: usize) -> RecordRead
+fn record_of_as(
+    area: &[u8],
+    profile: Profile,
+    party: Party,
+    i: usize,
+    j: usize,
+) -> Result<Option<RecordRead>, Refusal>
     requires { (valid area.now ≡ true) × (profile_obeys profile (decode area.now) ≡ true) }
     ensures { result ≡ record_of_as profile party i j (decode area.now) }
 {
     let nodes = fields::byte_at(area, layout::NODE_COUNT);
     if nodes <= i {
-        return RecordRead::Refused(Refusal::NoPlace);
+        return Err(Refusal::NoPlace);
     }
     record_in(
         table::node_of(area, i),
@@ -326,7 +316,12 @@ fn record_of_as(area: &[u8], profile: Profile, party: Party, i: usize, j: usize)
 }
 
 // The record in place `j` of those that a party sees of the node in place `i`, in a good table: 8.
-pub fn record_of_known(table: &[u8], party: Party, i: usize, j: usize) -> RecordRead
+pub fn record_of_known(
+    table: &[u8],
+    party: Party,
+    i: usize,
+    j: usize,
+) -> Result<Option<RecordRead>, Refusal>
     requires { valid_whole table.now ≡ true }
     ensures { result ≡ record_of_as (decode_whole table.now).kind.profile party i j (decode (area_of table.now)) }
 {
@@ -335,31 +330,40 @@ pub fn record_of_known(table: &[u8], party: Party, i: usize, j: usize) -> Record
 }
 
 // The record in place `j` of those that a party sees of the node in place `i`: 14, 8.
-pub fn record_of(table: &[u8], party: Party, i: usize, j: usize) -> RecordRead
+pub fn record_of(
+    table: &[u8],
+    party: Party,
+    i: usize,
+    j: usize,
+) -> Result<Option<RecordRead>, Refusal>
     ensures { Says record_read_told (lent_record_of party i j table.now) result }
 {
-    if table_check::check_table(table) {
-        record_of_known(table, party, i, j)
-    } else {
-        RecordRead::Refused(Refusal::BadTable)
+    if !table_check::check_table(table) {
+        return Err(Refusal::BadTable);
     }
+    record_of_known(table, party, i, j)
 }
 
 // The record of a key in what a party sees of a node's bytes, which begin at `start` in the table: 1, 19.
-fn record_keyed(node: &[u8], start: usize, profile: Profile, party: Party, key: &[u8]) -> RecordRead
+fn record_keyed(
+    node: &[u8],
+    start: usize,
+    profile: Profile,
+    party: Party,
+    key: &[u8],
+) -> Result<Option<RecordRead>, Refusal>
     requires { LaidNode node.now × (keys_rise (recs_in node.now) ≡ true) × (recs_formed profile (recs_in node.now) ≡ true) × (start ≤ table_width) }
     ensures { result ≡ record_by_key_on_as profile party key.now start (some (decode_node node.now).node) }
 {
     if Record::KEY < key.len() {
-        return RecordRead::Refused(Refusal::TooLong);
+        return Err(Refusal::TooLong);
     }
-    if party_form::may_name(profile, party, key) {
-        match table_read::search_key(node, key) {
-            Place::At(j) => placed(node, start, own_rows::sight_of(node, profile, party).low, j),
-            Place::Free(_) => RecordRead::Nothing,
-        }
-    } else {
-        RecordRead::Refused(Refusal::OtherParty)
+    if !party_form::may_name(profile, party, key) {
+        return Err(Refusal::OtherParty);
+    }
+    match table_read::search_key(node, key) {
+        Place::At(j) => placed(node, start, own_rows::sight_of(node, profile, party).low, j),
+        Place::Free(_) => Ok(None),
     }
 }
 
@@ -370,18 +374,21 @@ fn record_by_key_as(
     party: Party,
     number: u64,
     key: &[u8],
-) -> RecordRead
+) -> Result<Option<RecordRead>, Refusal>
     requires { (valid area.now ≡ true) × (profile_obeys profile (decode area.now) ≡ true) }
     ensures { result ≡ record_by_key_as profile party number key.now (decode area.now) }
 {
-    match table_read::node_span(area, number) {
-        Span::Held { start, end } => record_keyed(&area[start..end], start, profile, party, key),
-        Span::Missing => RecordRead::Refused(Refusal::NoNode),
-    }
+    let span = table_read::node_span(area, number).ok_or(Refusal::NoNode)?;
+    record_keyed(&area[span.start..span.end], span.start, profile, party, key)
 }
 
 // The record of a key in what a party sees of a node, hidden or not, in a good table: 2, 1, 19.
-pub fn record_by_key_known(table: &[u8], party: Party, number: u64, key: &[u8]) -> RecordRead
+pub fn record_by_key_known(
+    table: &[u8],
+    party: Party,
+    number: u64,
+    key: &[u8],
+) -> Result<Option<RecordRead>, Refusal>
     requires { valid_whole table.now ≡ true }
     ensures { result ≡ record_by_key_as (decode_whole table.now).kind.profile party number key.now
         (decode (area_of table.now)) }
@@ -391,12 +398,16 @@ pub fn record_by_key_known(table: &[u8], party: Party, number: u64, key: &[u8]) 
 }
 
 // The record of a key in what a party sees of a node, hidden or not: 14, 2, 1, 19.
-pub fn record_by_key(table: &[u8], party: Party, number: u64, key: &[u8]) -> RecordRead
+pub fn record_by_key(
+    table: &[u8],
+    party: Party,
+    number: u64,
+    key: &[u8],
+) -> Result<Option<RecordRead>, Refusal>
     ensures { Says record_read_told (lent_record_by_key party number key.now table.now) result }
 {
-    if table_check::check_table(table) {
-        record_by_key_known(table, party, number, key)
-    } else {
-        RecordRead::Refused(Refusal::BadTable)
+    if !table_check::check_table(table) {
+        return Err(Refusal::BadTable);
     }
+    record_by_key_known(table, party, number, key)
 }

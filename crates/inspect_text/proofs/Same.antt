@@ -5,21 +5,22 @@ use mathlib.Core.Option.{Option, none, some}
 use Rattle.rules.specs.Node.{Rec, Node}
 use Rattle.rules.specs.Table.{Table, node_of}
 use Rattle.table_read.specs.Find.{node_start}
-use Rattle.lookup.specs.declared.Found.{Found}
-use Rattle.lookup.specs.declared.Found.TheVariants as found
-use Rattle.inspect.specs.Look.{element_at, read_at, record_on, read_record}
+use Rattle.std.specs.Prelude.{Option as Optional}
+use Rattle.std.specs.Prelude.{Err, None, Ok, Result, Some}
 use Rattle.inspect.specs.declared.RecordRead.{RecordRead}
-use Rattle.inspect.specs.declared.RecordRead.TheVariants as rec
+use Rattle.lookup.specs.declared.Found.{Found}
+use Rattle.rules.specs.declared.Refusal.{Refusal}
+use Rattle.inspect.specs.Look.{element_at, read_at, record_on, read_record}
 use Rattle.inspect_text.specs.Texts.{place_on, text_on, text_found}
 use Rattle.inspect_text.specs.declared.Text.{Text}
 use Rattle.inspect_text.specs.declared.Text.TheVariants.{Key, Value}
 
 -- where a record's reading says that its text stands
-abbrev pub text_read : (text : Text) (read : RecordRead) → Found
-text_read Key (rec.Is k v r) = found.At k r.keylen
-text_read Value (rec.Is k v r) = found.At v r.valuelen
-text_read text rec.Nothing = found.Nothing
-text_read text (rec.Refused r) = found.Refused r
+abbrev pub text_read : (text : Text) (read : (Result (Optional RecordRead) Refusal)) → (Result (Optional Found) Refusal)
+text_read Key (Ok (Some rr)) = (Ok (Some (record { start = rr.key; len = rr.«record».keylen })))
+text_read Value (Ok (Some rr)) = (Ok (Some (record { start = rr.value; len = rr.«record».valuelen })))
+text_read text (Ok None) = (Ok None)
+text_read text (Err r) = Err r
 
 same_place : (text : Text) (start j : ℕ) (there : Option Rec) → text_read text (read_at start j there) ≡ place_on text start j there
 same_place Key start j none = refl

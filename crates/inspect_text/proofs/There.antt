@@ -24,14 +24,15 @@ use Rattle.table.proofs.Places.{rec_bytes, rec_at}
 use Rattle.table.proofs.Laid.{laid-key, laid-value}
 use Rattle.table.proofs.Wholes.{area-valid, area-formed}
 use Rattle.table_read.specs.Find.{span_in, node_start}
+use Rattle.std.specs.Prelude.{Option as Optional}
+use Rattle.std.specs.Prelude.{Err, None, Ok, Result, Some}
+use Rattle.lookup.specs.declared.Found.{Found}
+use Rattle.rules.specs.declared.Refusal.{Refusal}
 use Rattle.table_read.specs.declared.Span.{Span}
-use Rattle.table_read.specs.declared.Span.TheVariants.{Held, Missing}
 use Rattle.table_read.proofs.Held.{held-laid, held-rises, held_start, held-node, missing-node}
 use Rattle.own_rows.specs.Sight.{sight_in, seen_node, seen_held, front_on, front_in}
 use Rattle.own_rows.proofs.Tables.{node_seen, seen-stands}
 use Rattle.lookup.specs.Lookup.{moved_by}
-use Rattle.lookup.specs.declared.Found.{Found}
-use Rattle.lookup.specs.declared.Found.TheVariants.{At, Refused}
 use Rattle.lookup.proofs.Values.{text-within, text-there, Stands, refused-stands, area-stands}
 use Rattle.inspect.specs.Look.{element_at, front_told, front_as}
 use Rattle.inspect.proofs.Elements.{own-within, rec-there, no-rec-there}
@@ -39,7 +40,7 @@ use Rattle.inspect_text.specs.Texts.{text_of, text_offset, place_on, text_on, te
 use Rattle.inspect_text.specs.declared.Text.{Text}
 use Rattle.inspect_text.specs.declared.Text.TheVariants.{Key, Value}
 
-module _ (n : ℕ) (l : List ℕ) (v : valid l ≡ true) {start end : ℕ} (e : span_in n l ≡ Held start end) (j : ℕ) where
+module _ (n : ℕ) (l : List ℕ) (v : valid l ≡ true) {start end : ℕ} (e : span_in n l ≡ (Some (record { start = start; end = end }))) (j : ℕ) where
   abbrev node : List ℕ
   node = part start node_width l
 
@@ -58,7 +59,7 @@ module _ (n : ℕ) (l : List ℕ) (v : valid l ≡ true) {start end : ℕ} (e : 
       (text-within n l v e j g (text_offset Value) m fits value refl, text-there n l v e j g (text_offset Value) m fits value refl)
 
 -- of what stands in place j of what a party sees of the node
-module _ (p : Profile) (q : Party) (n : ℕ) (l : List ℕ) (v : valid l ≡ true) (g : profile_obeys p (decode l) ≡ true) {start end : ℕ} (e : span_in n l ≡ Held start end) (j : ℕ) where
+module _ (p : Profile) (q : Party) (n : ℕ) (l : List ℕ) (v : valid l ≡ true) (g : profile_obeys p (decode l) ≡ true) {start end : ℕ} (e : span_in n l ≡ (Some (record { start = start; end = end }))) (j : ℕ) where
   abbrev bytes : List ℕ
   bytes = part start node_width l
 
@@ -70,7 +71,7 @@ module _ (p : Profile) (q : Party) (n : ℕ) (l : List ℕ) (v : valid l ≡ tru
 
   -- further back by the front
   moved : (x : Text) (r : Rec) → place_on x start (low + j) (some r) ≡ moved_by (low * rec_width) (place_on x start j (some r))
-  moved x r = ap (λ (k : ℕ). At k (length (text_of x r))) (omega arith)
+  moved x r = ap (λ (k : ℕ). (Ok (Some (record { start = k; len = (length (text_of x r)) })))) (omega arith)
 
   place-stands : (x : Text) → let o = element_at j (seen_node p q (decode_node bytes).node).recs in
       Stands l (moved_by (low * rec_width) (place_on x start j o)) (record_bytes x o)
@@ -84,26 +85,26 @@ module _ (p : Profile) (q : Party) (n : ℕ) (l : List ℕ) (v : valid l ≡ tru
           let h : j < (sight_in p q (recs_in bytes)).count = ltb-true _ _ y in
           let id : Option Rec → Option Rec = λ o. o in
           subst There (rec-there p q bytes (held-rises n l v e) formed refl id j h _ refl)
-          (subst (λ (f : Found). Stands l f (text_of x (rec_at (low + j) bytes))) (moved x (rec_at (low + j) bytes))
+          (subst (λ (f : (Result (Optional Found) Refusal)). Stands l f (text_of x (rec_at (low + j) bytes))) (moved x (rec_at (low + j) bytes))
           (rec-stands n l v e (low + j) x (own-within p q bytes (held-rises n l v e) formed refl id j h)))
       go false y =
           subst There (no-rec-there p q bytes (held-rises n l v e) formed refl (λ (o : Option Rec). o) j (ltb-false _ _ y))
-          (refused-stands l (Refused NoPlace) refl refl)
+          (refused-stands l (Err NoPlace) refl refl)
 
 -- in a good table of a profile
 pub text-stands : (p : Profile) (q : Party) (l : List ℕ) (v : valid l ≡ true) → profile_obeys p (decode l) ≡ true → (x : Text) (n j : ℕ)
     → Stands l (moved_by (front_in p q n (decode l)) (text_found_as p q x n j (decode l))) (bytes_in x n j (seen p q (decode l)))
 text-stands p q l v g x n j =
-    subst (λ (f : Found). Stands l (moved_by (front_in p q n t) f) (bytes_in x n j (seen p q t))) (seen-stands (text_on x) j p q n t)
+    subst (λ (f : (Result (Optional Found) Refusal)). Stands l (moved_by (front_in p q n t) f) (bytes_in x n j (seen p q t))) (seen-stands (text_on x) j p q n t)
     (subst (λ (o : Option Node). Stands l (moved_by (front_in p q n t) (text_on x j (node_start n t) (seen_held p q (node_of n t)))) (bytes_on x j o)) (sym (node_seen p q n t))
     (go (span_in n l) refl))
   where
     t : Table
     t = decode l
 
-    go : (s : Span) → span_in n l ≡ s → Stands l (moved_by (front_in p q n t) (text_on x j (node_start n t) (seen_held p q (node_of n t)))) (bytes_on x j (seen_held p q (node_of n t)))
-    go (Held start end) e = rw (held_start n l v e, held-node n l v e) (place-stands p q n l v g e j x)
-    go Missing e = rw (missing-node n l v e) (refused-stands l (Refused NoNode) refl refl)
+    go : (s : (Optional Span)) → span_in n l ≡ s → Stands l (moved_by (front_in p q n t) (text_on x j (node_start n t) (seen_held p q (node_of n t)))) (bytes_on x j (seen_held p q (node_of n t)))
+    go (Some s) e = rw (held_start n l v e, held-node n l v e) (place-stands p q n l v g e j x)
+    go None e = rw (missing-node n l v e) (refused-stands l (Err NoNode) refl refl)
 
 -- and in a whole good table
 pub whole-text-stands : (l : List ℕ) → valid_whole l ≡ true → (q : Party) (x : Text) (n j : ℕ)

@@ -17,11 +17,11 @@ use Rattle.rules.specs.declared.Refusal.TheVariants.{NoNode, NoPlace, BadTable}
 use Rattle.table_read.specs.Find.{node_start}
 use Rattle.own_rows.specs.Sight.{front_in}
 use Rattle.lookup.specs.Lookup.{HandedOut, start_of, moved_by, nothing_held}
+use Rattle.std.specs.Prelude.{Option as Optional}
+use Rattle.std.specs.Prelude.{Err, Ok, Result, Some}
 use Rattle.lookup.specs.declared.Found.{Found}
-use Rattle.lookup.specs.declared.Found.TheVariants as found
+use Rattle.rules.specs.declared.Refusal.{Refusal}
 use Rattle.inspect.specs.Look.{element_at}
-use Rattle.inspect.specs.declared.Count.{Count}
-use Rattle.inspect.specs.declared.Count.TheVariants as count
 use Rattle.inspect_text.specs.declared.Text.{Text}
 use Rattle.inspect_text.specs.declared.Text.TheVariants.{Key, Value}
 
@@ -39,26 +39,26 @@ text_offset Value = offset rec_widths 3
 abbrev pub text_place : (text : Text) (start j : ℕ) → ℕ
 text_place text start j = start + rec_place j + text_offset text
 
-abbrev pub place_on : (text : Text) (start j : ℕ) (there : Option Rec) → Found
-place_on text start j none = found.Refused NoPlace
-place_on text start j (some r) = found.At (text_place text start j) (length (text_of text r))
+abbrev pub place_on : (text : Text) (start j : ℕ) (there : Option Rec) → (Result (Optional Found) Refusal)
+place_on text start j none = Err NoPlace
+place_on text start j (some r) = (Ok (Some (record { start = (text_place text start j); len = (length (text_of text r)) })))
 
 -- in the node that is held: 2, 8
-abbrev pub text_on : (text : Text) (j start : ℕ) (held : Option Node) → Found
-text_on text j start none = found.Refused NoNode
+abbrev pub text_on : (text : Text) (j start : ℕ) (held : Option Node) → (Result (Optional Found) Refusal)
+text_on text j start none = Err NoNode
 text_on text j start (some n) = place_on text start j (element_at j n.recs)
 
 -- in a good table: 2, 8
-abbrev pub text_found : (text : Text) (number j : ℕ) (table : Table) → Found
+abbrev pub text_found : (text : Text) (number j : ℕ) (table : Table) → (Result (Optional Found) Refusal)
 text_found text number j table = text_on text j (node_start number table) (node_of number table)
 
 -- by a party, in what it sees
-abbrev pub text_found_as : (profile : Profile) (party : Party) (text : Text) (number j : ℕ) (table : Table) → Found
+abbrev pub text_found_as : (profile : Profile) (party : Party) (text : Text) (number j : ℕ) (table : Table) → (Result (Optional Found) Refusal)
 text_found_as p q text number j table = text_found text number j (seen p q table)
 
 -- in lent bytes: 14, 2, 8
-abbrev pub lent_text_found : (party : Party) (text : Text) (number j : ℕ) (table : Bytes) → Found
-lent_text_found q text number j table = from_table (found.Refused BadTable) (text_found_as (decode_whole table).kind.profile q text number j) table
+abbrev pub lent_text_found : (party : Party) (text : Text) (number j : ℕ) (table : Bytes) → (Result (Optional Found) Refusal)
+lent_text_found q text number j table = from_table (Err BadTable) (text_found_as (decode_whole table).kind.profile q text number j) table
 
 -- ---- the bytes themselves, none where the call is refused
 
@@ -76,9 +76,9 @@ bytes_in text number j table = bytes_on text j (node_of number table)
 -- ---- what is handed out, of a good table and of lent bytes
 
 -- a count, or 0 where it was refused
-abbrev pub counted_or : (count : Count) → ℕ
-counted_or (count.Are n) = n
-counted_or (count.Refused r) = 0
+abbrev pub counted_or : (count : (Result ℕ Refusal)) → ℕ
+counted_or (Ok n) = n
+counted_or (Err r) = 0
 
 abbrev pub text_part : (profile : Profile) (party : Party) (text : Text) (number j : ℕ) (table : Table) → HandedOut
 text_part p q text number j table =

@@ -16,13 +16,11 @@ ghost use Rattle.table.specs.Fits.{LaidNode};
 ghost use Rattle.own_rows.specs.Sight.{seen_held};
 ghost use Rattle.lookup.specs.Lookup.{Within, Hands, part_of, moved_by};
 ghost use Rattle.lookup.specs.Told.{found_told};
-ghost use Rattle.inspect_text.specs.Texts.{text_on, text_found_as, lent_text_found, counted_or, text_part, lent_text_part};
+ghost use Rattle.inspect_text.specs.Texts.{text_on, text_found_as, lent_text_found, text_part, lent_text_part};
 
-use inspect::Count;
 use lookup::Found;
 use rules::{Party, Profile, Refusal};
 use table::layout;
-use table_read::Span;
 
 // One of a record's two texts.
 #[derive(Clone, Copy)]
@@ -32,25 +30,32 @@ pub enum Text {
 }
 
 // Where the text of record `j` of those that a party sees stands, in a node's bytes, which begin at `start` in the table: 8.
-fn in_node(node: &[u8], start: usize, profile: Profile, party: Party, j: usize, text: Text) -> Found
+fn in_node(
+    node: &[u8],
+    start: usize,
+    profile: Profile,
+    party: Party,
+    j: usize,
+    text: Text,
+) -> Result<Option<Found>, Refusal>
     requires { LaidNode node.now × (keys_rise (recs_in node.now) ≡ true) × (recs_formed profile (recs_in node.now) ≡ true) × (start ≤ table_width) }
     ensures { result ≡ text_on text j start (seen_held profile party (some (decode_node node.now).node)) }
 {
     let sight = own_rows::sight_of(node, profile, party);
     if sight.count <= j {
-        return Found::Refused(Refusal::NoPlace);
+        return Err(Refusal::NoPlace);
     }
     let r = table_read::read_record(table::record_of(node, sight.low + j));
     let record = start + table::record_place(j);
     match text {
-        Text::Key => Found::At {
+        Text::Key => Ok(Some(Found {
             start: record + layout::KEY,
             len: r.keylen,
-        },
-        Text::Value => Found::At {
+        })),
+        Text::Value => Ok(Some(Found {
             start: record + layout::VALUE,
             len: r.valuelen,
-        },
+        })),
     }
 }
 
@@ -62,18 +67,29 @@ fn find_text_as(
     number: u64,
     j: usize,
     text: Text,
-) -> Found
+) -> Result<Option<Found>, Refusal>
     requires { (valid area.now ≡ true) × (profile_obeys profile (decode area.now) ≡ true) }
     ensures { result ≡ text_found_as profile party text number j (decode area.now) }
 {
-    match table_read::node_span(area, number) {
-        Span::Held { start, end } => in_node(&area[start..end], start, profile, party, j, text),
-        Span::Missing => Found::Refused(Refusal::NoNode),
-    }
+    let span = table_read::node_span(area, number).ok_or(Refusal::NoNode)?;
+    in_node(
+        &area[span.start..span.end],
+        span.start,
+        profile,
+        party,
+        j,
+        text,
+    )
 }
 
 // Where the text of record `j` of those that a party sees of a node stands, in a good table: 2, 8.
-pub fn find_text_known(table: &[u8], party: Party, number: u64, j: usize, text: Text) -> Found
+pub fn find_text_known(
+    table: &[u8],
+    party: Party,
+    number: u64,
+    j: usize,
+    text: Text,
+) -> Result<Option<Found>, Refusal>
     requires { valid_whole table.now ≡ true }
     ensures { result ≡ text_found_as (decode_whole table.now).kind.profile party text number j (decode (area_of table.now)) }
 {
@@ -82,41 +98,36 @@ pub fn find_text_known(table: &[u8], party: Party, number: u64, j: usize, text: 
 }
 
 // Where the text of record `j` of those that a party sees of a node stands, in lent bytes: 14, 2, 8.
-pub fn find_text(table: &[u8], party: Party, number: u64, j: usize, text: Text) -> Found
+pub fn find_text(
+    table: &[u8],
+    party: Party,
+    number: u64,
+    j: usize,
+    text: Text,
+) -> Result<Option<Found>, Refusal>
     ensures { Says found_told (lent_text_found party text number j table.now) result }
 {
-    if table_check::check_table(table) {
-        find_text_known(table, party, number, j, text)
-    } else {
-        Found::Refused(Refusal::BadTable)
+    if !table_check::check_table(table) {
+        return Err(Refusal::BadTable);
     }
-}
-
-// A count, or 0 where it was refused.
-fn counted(count: Count) -> usize
-    ensures { result ≡ counted_or count }
-{
-    match count {
-        Count::Are(n) => n,
-        Count::Refused(_) => 0,
-    }
+    find_text_known(table, party, number, j, text)
 }
 
 // The part of the slice `front` bytes behind what was told, and where nothing was, the empty part at its front.
-fn held_behind(table: &[u8], told: Found, front: usize) -> &[u8]
+fn held_behind(table: &[u8], told: Result<Option<Found>, Refusal>, front: usize) -> &[u8]
     requires { Within (length table.now) (moved_by front told) }
     ensures { Hands (part_of table.now (moved_by front told)) table.entry.ref_ptr result.now result.ref_ptr }
 {
     match told {
-        Found::At { start, len } => lookup::held(
+        Ok(Some(Found { start, len })) => lookup::held(
             table,
-            Found::At {
+            Ok(Some(Found {
                 start: start + front,
                 len,
-            },
+            })),
         ),
-        Found::Nothing => &table[..0],
-        Found::Refused(_) => &table[..0],
+        Ok(None) => &table[..0],
+        Err(_) => &table[..0],
     }
 }
 
@@ -130,7 +141,7 @@ pub fn text_known(table: &[u8], party: Party, number: u64, j: usize, text: Text)
     held_behind(
         table,
         find_text_known(table, party, number, j, text),
-        counted(inspect::front_known(table, party, number)),
+        inspect::front_known(table, party, number).unwrap_or(0),
     )
 }
 
@@ -139,9 +150,8 @@ pub fn text_known(table: &[u8], party: Party, number: u64, j: usize, text: Text)
 pub fn text_at(table: &[u8], party: Party, number: u64, j: usize, text: Text) -> &[u8]
     ensures { Hands (lent_text_part party text number j table.now) table.entry.ref_ptr result.now result.ref_ptr }
 {
-    if table_check::check_table(table) {
-        text_known(table, party, number, j, text)
-    } else {
-        &table[..0]
+    if !table_check::check_table(table) {
+        return &table[..0];
     }
+    text_known(table, party, number, j, text)
 }

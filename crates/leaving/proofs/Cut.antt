@@ -23,8 +23,8 @@ use Rattle.rules.specs.Apply.{ApplyOutcome, Lawful, Stream, Taking, Ways, answer
 use Rattle.rules.specs.Whole.{Whole, with_table, encode_whole, decode_whole, obeys_whole, valid_whole}
 use Rattle.rules.specs.Lent.{TableAndList, stored_apply}
 use Rattle.rules.specs.declared.NodeAnswer.{NodeAnswer}
-use Rattle.rules.specs.declared.Applied.{Applied}
-use Rattle.rules.specs.declared.Applied.TheVariants as applied
+use Rattle.std.specs.Prelude.{Ok, Result}
+use Rattle.rules.specs.declared.DeltaFault.{DeltaFault}
 use Rattle.rules.proofs.Refusing.{whole-bytes}
 use Rattle.rules.proofs.Tables.{numbers-each}
 use Rattle.table.proofs.Wholes.{whole-obeys}
@@ -107,7 +107,7 @@ call-accepted own ways b ops now t l r h =
     ∙ rw (le-leb (length (parts_of ops)) (length l) h) refl
 
 tells : (own : List ℕ) (take : Taking) (xs : List Part) (t : Table) (l : List ℕ) → length xs ≤ length l
-    → given (applied.Nodes (length xs)) (put 0 (codes (leaving_each own take xs t).answers) l) ≡ codes (leaving_each own take xs t).answers
+    → given (Ok (length xs)) (put 0 (codes (leaving_each own take xs t).answers) l) ≡ codes (leaving_each own take xs t).answers
 tells own take xs t l h =
     let c : List ℕ = codes (leaving_each own take xs t).answers in
     let e : length c ≡ length xs = codes-long (leaving_each own take xs t).answers ∙ each_long own take xs t in
@@ -129,7 +129,7 @@ module _ (own : List ℕ) (take : Taking) (xs ys : List Part) (t : Table) (list 
         n₂ = length ys;
         first_is = refl;
         second_is = refl;
-        whole_is = ap applied.Nodes (length-append xs ys);
+        whole_is = ap Ok (length-append xs ys);
         answers =
             tells own take (xs ++ ys) t list h
             ∙ ap (λ (s : Stream). codes s.answers) all
@@ -206,15 +206,15 @@ module _ (own : List ℕ) (w : Whole) (o : obeys_whole w ≡ true) (now : ℕ) (
   then-apply : (b c : List ℕ) → AreBytes b → (l k : List ℕ)
       → lent_leaving own c now k (lent_leaving own b now l (encode_whole w)).lent.table ≡ stored_apply w (apply_leaving own ways c now (apply_leaving own ways b now w.table l).table k)
   then-apply b c are l k =
-      ap (λ (g : Given Applied TableAndList). lent_leaving own c now k g.lent.table) (leaving-encoded own w o b now l)
+      ap (λ (g : Given (Result ℕ DeltaFault) TableAndList). lent_leaving own c now k g.lent.table) (leaving-encoded own w o b now l)
       ∙ leaving-encoded own (with_table (apply_leaving own ways b now w.table l).table w) (leaving-whole own w o b are now fits l) c now k
 
 -- of three calls, the last of them being the later one
-abbrev Told : (whole one two last : Given Applied TableAndList) → Type 0
+abbrev Told : (whole one two last : Given (Result ℕ DeltaFault) TableAndList) → Type 0
 Told w one two last = AsUncut w.answer one.answer two.answer w.lent.list one.lent.list two.lent.list w.lent.table last.lent.table
 
 -- tables that are the same have the same bytes
-in_bytes : (w : Whole) {x y z : Applied} {l l₁ l₂ : List ℕ} {u v : Table} → AsUncut x y z l l₁ l₂ u v → AsUncut x y z l l₁ l₂ (encode_whole (with_table u w)) (encode_whole (with_table v w))
+in_bytes : (w : Whole) {x y z : (Result ℕ DeltaFault)} {l l₁ l₂ : List ℕ} {u v : Table} → AsUncut x y z l l₁ l₂ u v → AsUncut x y z l l₁ l₂ (encode_whole (with_table u w)) (encode_whole (with_table v w))
 in_bytes w a =
     record { n₁ = a.n₁; n₂ = a.n₂; first_is = a.first_is; second_is = a.second_is; whole_is = a.whole_is; answers = a.answers; table_is = ap (λ (t : Table). encode_whole (with_table t w)) a.table_is }
 

@@ -17,7 +17,7 @@ use Rattle.rules.specs.Apply.{Ways, Taking, Stream, ApplyOutcome, answering, on_
 use Rattle.rules.specs.declared.NodeAnswer.{NodeAnswer}
 use Rattle.rules.specs.declared.NodeAnswer.TheVariants as node
 use Rattle.rules.specs.declared.Refusal.TheVariants.{NoPlace}
-use Rattle.rules.specs.declared.Applied.TheVariants.{Nodes, Refused}
+use Rattle.std.specs.Prelude.{Err, Ok}
 use Rattle.rules.proofs.Refusing.{set_same}
 use Rattle.rules.proofs.Tables.{numbers-set, numbers-apply}
 use Rattle.leaving.specs.Leaving.{left_alone, leaving_each, leaving_ops, apply_leaving, kept_entry, kept, left_answer, told}
@@ -45,7 +45,7 @@ by-ops [] ways b now t l = go (ways.reads b)
   where
     go : (o : Ops) → apply_ops (apply_node ways now) o t l ≡ leaving_ops [] (apply_node ways now) o t l
     go (Good ops) =
-        ap (λ (s : Stream). pick {X = ApplyOutcome} (leb (length (parts_of ops)) (length l)) (record { answer = Nodes (length (parts_of ops)); table = s.table; list = put 0 (codes s.answers) l }) (record { answer = Refused NoPlace 0; table = t; list = l }))
+        ap (λ (s : Stream). pick {X = ApplyOutcome} (leb (length (parts_of ops)) (length l)) (record { answer = Ok (length (parts_of ops)); table = s.table; list = put 0 (codes s.answers) l }) (record { answer = (Err (record { why = NoPlace; at = 0 })); table = t; list = l }))
         (sym (none_named (apply_node ways now) (parts_of ops) t))
     go (Faulty r at) = refl
 by-ops (i ∷ is) ways b now t l = refl
@@ -198,8 +198,8 @@ module _ (own : List ℕ) (ways : Ways) (b : List ℕ) (now : ℕ) (t : Table) (
   same_answer = ap (λ (o : ApplyOutcome). o.answer) (by-ops own ways b now t l) ∙ go (ways.reads b)
     where
       room : (xs : List Part) (c : Bool)
-          → (pick {X = ApplyOutcome} c (record { answer = Nodes (length xs); table = (leaving_each own (apply_node ways now) xs t).table; list = put 0 (codes (leaving_each own (apply_node ways now) xs t).answers) l }) (record { answer = Refused NoPlace 0; table = t; list = l })).answer
-          ≡ (pick {X = ApplyOutcome} c (record { answer = Nodes (length xs); table = (apply_each (apply_node ways now) xs t).table; list = put 0 (codes (apply_each (apply_node ways now) xs t).answers) l }) (record { answer = Refused NoPlace 0; table = t; list = l })).answer
+          → (pick {X = ApplyOutcome} c (record { answer = Ok (length xs); table = (leaving_each own (apply_node ways now) xs t).table; list = put 0 (codes (leaving_each own (apply_node ways now) xs t).answers) l }) (record { answer = (Err (record { why = NoPlace; at = 0 })); table = t; list = l })).answer
+          ≡ (pick {X = ApplyOutcome} c (record { answer = Ok (length xs); table = (apply_each (apply_node ways now) xs t).table; list = put 0 (codes (apply_each (apply_node ways now) xs t).answers) l }) (record { answer = (Err (record { why = NoPlace; at = 0 })); table = t; list = l })).answer
       room xs true = refl
       room xs false = refl
 
@@ -213,8 +213,8 @@ module _ (own : List ℕ) (ways : Ways) (b : List ℕ) (now : ℕ) (t : Table) (
   left-table = ap (λ (o : ApplyOutcome). o.table) (by-ops own ways b now t l) ∙ go (ways.reads b)
     where
       room : (xs : List Part) (c : Bool)
-          → (pick {X = ApplyOutcome} c (record { answer = Nodes (length xs); table = (leaving_each own (apply_node ways now) xs t).table; list = put 0 (codes (leaving_each own (apply_node ways now) xs t).answers) l }) (record { answer = Refused NoPlace 0; table = t; list = l })).table
-          ≡ kept own t (pick {X = ApplyOutcome} c (record { answer = Nodes (length xs); table = (apply_each (apply_node ways now) xs t).table; list = put 0 (codes (apply_each (apply_node ways now) xs t).answers) l }) (record { answer = Refused NoPlace 0; table = t; list = l })).table
+          → (pick {X = ApplyOutcome} c (record { answer = Ok (length xs); table = (leaving_each own (apply_node ways now) xs t).table; list = put 0 (codes (leaving_each own (apply_node ways now) xs t).answers) l }) (record { answer = (Err (record { why = NoPlace; at = 0 })); table = t; list = l })).table
+          ≡ kept own t (pick {X = ApplyOutcome} c (record { answer = Ok (length xs); table = (apply_each (apply_node ways now) xs t).table; list = put 0 (codes (apply_each (apply_node ways now) xs t).answers) l }) (record { answer = (Err (record { why = NoPlace; at = 0 })); table = t; list = l })).table
       room xs true = (each_left own (apply_node ways now) xs t).table_is
       room xs false = sym (kept_same own t)
 

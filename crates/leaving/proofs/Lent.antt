@@ -16,8 +16,8 @@ use Rattle.rules.specs.Given.{Given, given}
 use Rattle.rules.specs.Apply.{Ways, ApplyOutcome, apply_node, apply, codes, ways_in}
 use Rattle.rules.specs.Whole.{Whole, with_table, encode_whole, decode_whole, obeys_whole, valid_whole}
 use Rattle.rules.specs.Lent.{TableAndList, both, stored_apply, lent_apply, lent_apply_as}
-use Rattle.rules.specs.declared.Applied.{Applied}
-use Rattle.rules.specs.declared.Applied.TheVariants as applied
+use Rattle.std.specs.Prelude.{Err, Ok, Result}
+use Rattle.rules.specs.declared.DeltaFault.{DeltaFault}
 use Rattle.rules.specs.declared.Refusal.{Refusal}
 use Rattle.rules.specs.declared.Refusal.TheVariants.{NoPlace, BadTable}
 use Rattle.rules.proofs.Refusing.{whole-bytes}
@@ -41,28 +41,28 @@ lent-answer own ways delta now list table = go (valid_whole table)
     t : Table
     t = (decode_whole table).table
 
-    go : (b : Bool) → (pick b (stored_apply (decode_whole table) (apply_leaving own ways delta now (decode_whole table).table list)) (given (applied.Refused BadTable 0) (both table list))).answer
-        ≡ (pick b (stored_apply (decode_whole table) (apply ways delta now (decode_whole table).table list)) (given (applied.Refused BadTable 0) (both table list))).answer
+    go : (b : Bool) → (pick b (stored_apply (decode_whole table) (apply_leaving own ways delta now (decode_whole table).table list)) (given (Err (record { why = BadTable; at = 0 })) (both table list))).answer
+        ≡ (pick b (stored_apply (decode_whole table) (apply ways delta now (decode_whole table).table list)) (given (Err (record { why = BadTable; at = 0 })) (both table list))).answer
     go true = same_answer own ways delta now (decode_whole table).table list
     go false = refl
 
 -- and a refused call changes nothing
-pub leaving-refused : (own : List ℕ) (ways : Ways) (bytes : List ℕ) (now : ℕ) (t : Table) (l : List ℕ) (r : Refusal) (at : ℕ) → (apply_leaving own ways bytes now t l).answer ≡ applied.Refused r at
+pub leaving-refused : (own : List ℕ) (ways : Ways) (bytes : List ℕ) (now : ℕ) (t : Table) (l : List ℕ) (r : Refusal) (at : ℕ) → (apply_leaving own ways bytes now t l).answer ≡ (Err (record { why = r; at = at }))
     → ((apply_leaving own ways bytes now t l).table ≡ t) × ((apply_leaving own ways bytes now t l).list ≡ l)
 leaving-refused own ways bytes now t l r at =
-    subst (λ (o : ApplyOutcome). o.answer ≡ applied.Refused r at → (o.table ≡ t) × (o.list ≡ l)) (sym (by-ops own ways bytes now t l)) (go (ways.reads bytes))
+    subst (λ (o : ApplyOutcome). o.answer ≡ (Err (record { why = r; at = at })) → (o.table ≡ t) × (o.list ≡ l)) (sym (by-ops own ways bytes now t l)) (go (ways.reads bytes))
   where
     room : (xs : List Part) (b : Bool)
-        → let o : ApplyOutcome = pick b (record { answer = applied.Nodes (length xs); table = (leaving_each own (apply_node ways now) xs t).table; list = put 0 (codes (leaving_each own (apply_node ways now) xs t).answers) l }) (record { answer = applied.Refused NoPlace 0; table = t; list = l }) in
-        o.answer ≡ applied.Refused r at → (o.table ≡ t) × (o.list ≡ l)
+        → let o : ApplyOutcome = pick b (record { answer = Ok (length xs); table = (leaving_each own (apply_node ways now) xs t).table; list = put 0 (codes (leaving_each own (apply_node ways now) xs t).answers) l }) (record { answer = (Err (record { why = NoPlace; at = 0 })); table = t; list = l }) in
+        o.answer ≡ (Err (record { why = r; at = at })) → (o.table ≡ t) × (o.list ≡ l)
     room xs true e = let z : ◌≡◌ {A = ℕ} 0 1 = cc in absurd (omega arith)
     room xs false e = (refl, refl)
 
-    go : (o : Ops) → (leaving_ops own (apply_node ways now) o t l).answer ≡ applied.Refused r at → ((leaving_ops own (apply_node ways now) o t l).table ≡ t) × ((leaving_ops own (apply_node ways now) o t l).list ≡ l)
+    go : (o : Ops) → (leaving_ops own (apply_node ways now) o t l).answer ≡ (Err (record { why = r; at = at })) → ((leaving_ops own (apply_node ways now) o t l).table ≡ t) × ((leaving_ops own (apply_node ways now) o t l).list ≡ l)
     go (Good ops) e = room (parts_of ops) (leb (length (parts_of ops)) (length l)) e
     go (Faulty y b) e = (refl, refl)
 
-pub lent-leaving-refused : (own : List ℕ) (ways : Ways) (delta : List ℕ) (now : ℕ) (list l : List ℕ) (r : Refusal) (at : ℕ) → (lent_leaving_as own ways delta now list l).answer ≡ applied.Refused r at
+pub lent-leaving-refused : (own : List ℕ) (ways : Ways) (delta : List ℕ) (now : ℕ) (list l : List ℕ) (r : Refusal) (at : ℕ) → (lent_leaving_as own ways delta now list l).answer ≡ (Err (record { why = r; at = at }))
     → ((lent_leaving_as own ways delta now list l).lent.table ≡ l) × ((lent_leaving_as own ways delta now list l).lent.list ≡ list)
 unfolding lent_leaving_as
 lent-leaving-refused own ways delta now list l r at = go (valid_whole l) refl
@@ -70,10 +70,10 @@ lent-leaving-refused own ways delta now list l r at = go (valid_whole l) refl
     t : Table
     t = (decode_whole l).table
 
-    out : Bool → Given Applied TableAndList
-    out b = pick b (stored_apply (decode_whole l) (apply_leaving own ways delta now t list)) (given (applied.Refused BadTable 0) (both l list))
+    out : Bool → Given (Result ℕ DeltaFault) TableAndList
+    out b = pick b (stored_apply (decode_whole l) (apply_leaving own ways delta now t list)) (given (Err (record { why = BadTable; at = 0 })) (both l list))
 
-    go : (b : Bool) → valid_whole l ≡ b → (out b).answer ≡ applied.Refused r at → ((out b).lent.table ≡ l) × ((out b).lent.list ≡ list)
+    go : (b : Bool) → valid_whole l ≡ b → (out b).answer ≡ (Err (record { why = r; at = at })) → ((out b).lent.table ≡ l) × ((out b).lent.list ≡ list)
     go true q e = let x = leaving-refused own ways delta now t list r at e in (ap (λ (u : Table). encode_whole (with_table u (decode_whole l))) x.0 ∙ whole-bytes l q, x.1)
     go false q e = (refl, refl)
 
@@ -86,14 +86,14 @@ module _ (own : List ℕ) (w : Whole) (o : obeys_whole w ≡ true) (delta : List
   pub leaving-encoded : lent_leaving own delta now list (encode_whole w) ≡ stored_apply w (apply_leaving own (ways_in w.kind) delta now w.table list)
   unfolding lent_leaving_as
   leaving-encoded =
-      ap (λ (b : Bool). pick b (stored_apply (decode_whole l) (apply_leaving own (ways_in (decode_whole l).kind) delta now (decode_whole l).table list)) (given (applied.Refused BadTable 0) (both l list)))
+      ap (λ (b : Bool). pick b (stored_apply (decode_whole l) (apply_leaving own (ways_in (decode_whole l).kind) delta now (decode_whole l).table list)) (given (Err (record { why = BadTable; at = 0 })) (both l list)))
       (valid-encode-whole w o)
       ∙ ap (λ (u : Whole). stored_apply u (apply_leaving own (ways_in u.kind) delta now u.table list)) (decode-encode-whole w o)
 
   module _ (are : AreBytes delta) (fits : now < numbers) where
     whole-left : decode_whole (lent_leaving own delta now list (encode_whole w)).lent.table ≡ with_table (apply_leaving own (ways_in w.kind) delta now w.table list).table w
     whole-left =
-        ap (λ (g : Given Applied TableAndList). decode_whole g.lent.table) leaving-encoded
+        ap (λ (g : Given (Result ℕ DeltaFault) TableAndList). decode_whole g.lent.table) leaving-encoded
         ∙ decode-encode-whole (with_table (apply_leaving own (ways_in w.kind) delta now w.table list).table w) (leaving-whole own w o delta are now fits list)
 
 module _ (own : List ℕ) (delta : List ℕ) (are : AreBytes delta) (now : ℕ) (fits : now < numbers) (list table : List ℕ) where
@@ -107,7 +107,7 @@ module _ (own : List ℕ) (delta : List ℕ) (are : AreBytes delta) (now : ℕ) 
   -- a table that is refused stays
   bad : valid_whole table ≡ false → (lent_leaving own delta now list table).lent.table ≡ table
   unfolding lent_leaving_as
-  bad e = ap (λ (b : Bool). (pick b (stored_apply (decode_whole table) (apply_leaving own (ways_in (decode_whole table).kind) delta now (decode_whole table).table list)) (given (applied.Refused BadTable 0) (both table list))).lent.table) e
+  bad e = ap (λ (b : Bool). (pick b (stored_apply (decode_whole table) (apply_leaving own (ways_in (decode_whole table).kind) delta now (decode_whole table).table list)) (given (Err (record { why = BadTable; at = 0 })) (both table list))).lent.table) e
 
   -- whatever the bytes of the delta, and whatever those of the table: a named node is as it was
   pub lent-named : (i : ℕ) → among i own ≡ true → node_of i (decode_whole (lent_leaving own delta now list table).lent.table).table ≡ node_of i (decode_whole table).table

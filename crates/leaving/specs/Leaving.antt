@@ -15,8 +15,8 @@ use Rattle.rules.specs.Lent.{TableAndList, both, stored_apply}
 use Rattle.rules.specs.declared.NodeAnswer.{NodeAnswer}
 use Rattle.rules.specs.declared.NodeAnswer.TheVariants as node
 use Rattle.rules.specs.declared.Refusal.TheVariants.{NoPlace, BadTable}
-use Rattle.rules.specs.declared.Applied.{Applied}
-use Rattle.rules.specs.declared.Applied.TheVariants.{Nodes, Refused}
+use Rattle.std.specs.Prelude.{Err, Ok, Result}
+use Rattle.rules.specs.declared.DeltaFault.{DeltaFault}
 
 -- ---- a node
 
@@ -38,12 +38,12 @@ leaving_each own take (x ∷ xs) t = on_node (leaving own take x.number) x (node
 abbrev pub leaving_parts : (own : List ℕ) (take : Taking) (parts : List Part) (table : Table) (list : Bytes) → ApplyOutcome
 leaving_parts own take xs t l =
     pick (leb (length xs) (length l))
-    (record { answer = Nodes (length xs); table = (leaving_each own take xs t).table; list = put 0 (codes (leaving_each own take xs t).answers) l })
-    (record { answer = Refused NoPlace 0; table = t; list = l })
+    (record { answer = Ok (length xs); table = (leaving_each own take xs t).table; list = put 0 (codes (leaving_each own take xs t).answers) l })
+    (record { answer = (Err (record { why = NoPlace; at = 0 })); table = t; list = l })
 
 abbrev pub leaving_ops : (own : List ℕ) (take : Taking) (read : Ops) (table : Table) (list : Bytes) → ApplyOutcome
 leaving_ops own take (Good ops) t l = leaving_parts own take (parts_of ops) t l
-leaving_ops own take (Faulty r at) t l = record { answer = Refused r at; table = t; list = l }
+leaving_ops own take (Faulty r at) t l = record { answer = (Err (record { why = r; at = at })); table = t; list = l }
 
 -- Where none is named it is `apply`. The second line would say the same of no node (proofs/Left, `by-ops`).
 unfoldable pub apply_leaving : (own : List ℕ) (ways : Ways) (delta : Bytes) (now : ℕ) (table : Table) (list : Bytes) → ApplyOutcome
@@ -52,13 +52,13 @@ apply_leaving (i ∷ is) ways bytes now t l = leaving_ops (i ∷ is) (apply_node
 
 -- ---- on lent bytes, in any ways, and in those of the table's kind: 14 first
 
-unfoldable pub lent_leaving_as : (own : List ℕ) (ways : Ways) (delta : Bytes) (now : ℕ) (list table : Bytes) → Given Applied TableAndList
+unfoldable pub lent_leaving_as : (own : List ℕ) (ways : Ways) (delta : Bytes) (now : ℕ) (list table : Bytes) → Given (Result ℕ DeltaFault) TableAndList
 lent_leaving_as own ways delta now list table =
     pick (valid_whole table)
     (stored_apply (decode_whole table) (apply_leaving own ways delta now (decode_whole table).table list))
-    (given (Refused BadTable 0) (both table list))
+    (given (Err (record { why = BadTable; at = 0 })) (both table list))
 
-abbrev pub lent_leaving : (own : List ℕ) (delta : Bytes) (now : ℕ) (list table : Bytes) → Given Applied TableAndList
+abbrev pub lent_leaving : (own : List ℕ) (delta : Bytes) (now : ℕ) (list table : Bytes) → Given (Result ℕ DeltaFault) TableAndList
 lent_leaving own delta now list table = lent_leaving_as own (ways_in (decode_whole table).kind) delta now list table
 
 -- ---- what is left, in one word: `kept` and `told` say what `apply_leaving` does by what `apply` does (proofs/Left)

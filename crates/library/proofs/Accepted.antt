@@ -11,7 +11,8 @@ use Rattle.rules.specs.Local.{gc}
 use Rattle.rules.specs.Layout.{table_width, encode, decode, valid}
 use Rattle.rules.specs.Whole.{decode_whole, valid_whole}
 use Rattle.rules.specs.Lent.{from_table, lent_gc}
-use Rattle.rules.specs.declared.Answer.TheVariants.{Done, Refused}
+use Rattle.std.specs.Prelude.{Err}
+use Rattle.rules.specs.Results.{done}
 use Rattle.rules.specs.declared.Refusal.TheVariants.{BadTable}
 use Rattle.table_check.proofs.Entry.{area-good, area-within, area-long, good-table}
 use Rattle.table_read.proofs.Entry.{read-good, fill-good}
@@ -34,6 +35,6 @@ good-fill rule l v bad a m p = fill-good rule l (sym v) bad refl a m p
 
 -- the removal answers nothing on a good table
 pub good-removed : (clock grace : ℕ) (l : List ℕ) → valid_whole l ≡ true → (m : List ℕ) → m ≡ encode (remove_all (λ i. due clock grace) (decode (take table_width l)))
-    → Gives (lent_gc clock grace l) Done (m ++ drop table_width l)
+    → Gives (lent_gc clock grace l) done (m ++ drop table_width l)
 unfolding gc
-good-removed clock grace l v m e = good-table (Refused BadTable) (gc clock grace) l v Done m (refl, e)
+good-removed clock grace l v m e = good-table (Err BadTable) (gc clock grace) l v done m (refl, e)

@@ -14,7 +14,7 @@ use Rattle.rules.specs.Delta.{status_byte}
 use Rattle.rules.specs.Layout.{decode_node}
 use Rattle.rules.specs.Profile.{kind}
 use Rattle.rules.specs.Whole.{mode_of_byte, profile_of_byte, decode_whole, valid_whole}
-use Rattle.rules.specs.declared.Answer.TheVariants.{Refused}
+use Rattle.std.specs.Prelude.{Err}
 use Rattle.rules.specs.declared.Mode.{Mode}
 use Rattle.rules.specs.declared.Profile.{Profile}
 use Rattle.rules.specs.declared.Refusal.TheVariants.{BadTable, BadTag}
@@ -40,7 +40,7 @@ module _ (n o : ℕ) (l : List ℕ) (m : Mode) (e : m ≡ mode_of_byte n) (b : �
   back : b ≡ mode_of (mode_of_byte n)
   back = q ∙ ap mode_of e
 
-  pub no_mode : (b ≡ n → ⊥) → Gives (made_by n o l) (Refused BadTable) l
+  pub no_mode : (b ≡ n → ⊥) → Gives (made_by n o l) (Err BadTable) l
   unfolding made_by
   no_mode h = let t : eqb (mode_of (mode_of_byte n)) n ≡ false = same_not (mode_of (mode_of_byte n)) n (λ p. h (back ∙ p)) in (rw (made_by, t) refl, rw (made_by, t) refl)
 
@@ -51,7 +51,7 @@ module _ (n o : ℕ) (l : List ℕ) (m : Mode) (e : m ≡ mode_of_byte n) (b : �
     mode-is : eqb (mode_of (mode_of_byte n)) n ≡ true
     mode-is = eq-eqb (mode_of (mode_of_byte n)) n (sym back ∙ in-mode)
 
-    pub no-profile : (c ≡ o → ⊥) → Gives (made_by n o l) (Refused BadTable) l
+    pub no-profile : (c ≡ o → ⊥) → Gives (made_by n o l) (Err BadTable) l
     unfolding made_by
     no-profile h =
         let s = mode-is in
@@ -75,11 +75,11 @@ module _ (v : List ℕ) (now : ℕ) (k : List ℕ) (n : ℕ) where
       go true p y q = ap (λ (m : ℕ). written m v now k e) (sym (eqb-true n (status_byte Set) p))
       go false p true q = ap (λ (m : ℕ). written m v now k e) (sym (eqb-true n (status_byte Ttl) q))
       go false p false q =
-          sym (ap₂ (λ (x y : Bool). pick x (called (Setting v) k e) (pick y (called (SettingTtl v now) k e) (given (Refused BadTag) e))) p q)
+          sym (ap₂ (λ (x y : Bool). pick x (called (Setting v) k e) (pick y (called (SettingTtl v now) k e) (given (Err BadTag) e))) p q)
 
   pub number-override : (s : Status) → s ≡ wanted_of n → (b : List ℕ) → lent_write_override (status_byte s) v now k b ≡ lent_write_override n v now k b
   number-override s e b =
-      ap (λ (x : Status). lent_write_override (status_byte x) v now k b) e ∙ (λ j. on_overrides (Refused BadTable) (λ x. number-written x j) b)
+      ap (λ (x : Status). lent_write_override (status_byte x) v now k b) e ∙ (λ j. on_overrides (Err BadTable) (λ x. number-written x j) b)
 
 -- overrides and a table that the checks accept
 module _ (o t : List ℕ) (v : valid_node o ≡ true) (w : valid_whole t ≡ true) where

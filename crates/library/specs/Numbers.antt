@@ -6,8 +6,8 @@ use Rattle.rules.specs.Answers.{number_of, mode_of, profile_of}
 use Rattle.rules.specs.Given.{Given, given}
 use Rattle.rules.specs.Profile.{kind}
 use Rattle.rules.specs.Whole.{mode_of_byte, profile_of_byte, valid_whole}
-use Rattle.rules.specs.declared.Answer.{Answer}
-use Rattle.rules.specs.declared.Answer.TheVariants.{Refused}
+use Rattle.std.specs.Prelude.{Err, Result}
+use Rattle.rules.specs.declared.Refusal.{Refusal}
 use Rattle.rules.specs.declared.Refusal.TheVariants.{BadTable}
 use Rattle.nodes.specs.New.{lent_made}
 use Rattle.overrides.specs.Overrides.{valid_node}
@@ -20,8 +20,8 @@ abbrev pub overrides_number : (overrides : Bytes) → ℕ
 overrides_number o = pick (valid_node o) 0 (number_of BadTable)
 
 -- a table made in the mode and the profile of two numbers; one that stands for none is 14, and nothing changes
-unfoldable pub made_by : (mode profile : ℕ) (slice : Bytes) → Given Answer Bytes
+unfoldable pub made_by : (mode profile : ℕ) (slice : Bytes) → Given (Result (Unit {0}) Refusal) Bytes
 made_by m p l =
     pick (eqb (mode_of (mode_of_byte m)) m)
-    (pick (eqb (profile_of (profile_of_byte p)) p) (lent_made (kind (mode_of_byte m) (profile_of_byte p)) l) (given (Refused BadTable) l))
-    (given (Refused BadTable) l)
+    (pick (eqb (profile_of (profile_of_byte p)) p) (lent_made (kind (mode_of_byte m) (profile_of_byte p)) l) (given (Err BadTable) l))
+    (given (Err BadTable) l)

@@ -17,9 +17,12 @@ use Rattle.rules.specs.Digest.{write_bytes}
 use Rattle.rules.specs.Listing.{ascii, decimal, list_delta, line_feed, listing, listing_of}
 use Rattle.rules.specs.declared.Refusal.{Refusal}
 use Rattle.rules.specs.declared.Refusal.TheVariants.{NoPlace}
-use Rattle.rules.specs.declared.Written.TheVariants.{Bytes, Refused}
+use Rattle.std.specs.Prelude.{Err, Ok, Result}
+use Rattle.rules.specs.declared.DeltaFault.{DeltaFault}
 use Rattle.rules.specs.declared.DeltaRead.{DeltaRead}
-use Rattle.rules.specs.declared.DeltaRead.TheVariants as read
+use Rattle.rules.proofs.Results.{err-is, ok-is}
+use Rattle.std.specs.Result.{is_err}
+use Rattle.std.proofs.lemmas.Bool.{false≢true}
 use Rattle.delta_op.proofs.Plain.{good-plain}
 use Rattle.listing_text.proofs.Texts.{decimal-long}
 use Rattle.listing_ops.specs.Lines.{lines_from}
@@ -28,45 +31,43 @@ use Rattle.listing.specs.Shapes.{cut_text, fault_text, good_text, longest_listin
 
 -- ---- by what reading has answered
 
-pub listing-good : (l : List ℕ) (ops nodes : ℕ) → rule.delta_read l ≡ read.Good ops nodes → (listing l ≡ good_text l ops) × (length l ≤ max_delta)
+pub listing-good : (l : List ℕ) (x : DeltaRead) → rule.delta_read l ≡ Ok x → (listing l ≡ good_text l x.ops) × (length l ≤ max_delta)
 unfolding rule.delta_read listing listing_of good_text lines_from
-listing-good l ops nodes e = go (rule.read_delta l) refl e
+listing-good l x e = go (rule.read_delta l) refl e
   where
-    go : (x : rule.Ops) → rule.read_delta l ≡ x → rule.read_answer x ≡ read.Good ops nodes
-        → (listing_of x (length l) ≡ good_text l ops) × (length l ≤ max_delta)
+    go : (y : rule.Ops) → rule.read_delta l ≡ y → rule.read_answer y ≡ Ok x → (listing_of y (length l) ≡ good_text l x.ops) × (length l ≤ max_delta)
     go (rule.Good os) q a =
         let p = good-plain l os q in
-        let k : length os ≡ ops = cc in
+        let k : length os ≡ x.ops = ap (λ (z : DeltaRead). z.ops) (ok-is _ _ a) in
         (rw (← k, ← p.0), p.1)
-    go (rule.Faulty r at) q a = let z : ◌≡◌ {A = ℕ} 0 1 = cc in absurd (omega arith)
+    go (rule.Faulty r at) q a = absurd (false≢true (sym (ap is_err a)))
 
-pub listing-refused : (l : List ℕ) (r : Refusal) (at : ℕ) → rule.delta_read l ≡ read.Refused r at → listing l ≡ refused_text (number_of r) at (need_of r)
+pub listing-refused : (l : List ℕ) (x : DeltaFault) → rule.delta_read l ≡ Err x → listing l ≡ refused_text (number_of x.why) x.at (need_of x.why)
 unfolding rule.delta_read listing listing_of fault_text cut_text
-listing-refused l r at e = go (rule.read_delta l) e
+listing-refused l x e = go (rule.read_delta l) e
   where
-    with-need : (t : Bool)
+    with-need : (r : Refusal) (at : ℕ) (t : Bool)
         → ascii "end=refused code=" ++ (decimal (number_of r) ++ (ascii " at=" ++ (decimal at ++ (pick t (ascii " need=" ++ decimal (need_of r)) [] ++ line_feed))))
         ≡ pick t (cut_text (number_of r) at (need_of r)) (fault_text (number_of r) at)
-    with-need true = refl
-    with-need false = refl
+    with-need r at true = refl
+    with-need r at false = refl
 
-    go : (x : rule.Ops) → rule.read_answer x ≡ read.Refused r at → listing_of x (length l) ≡ refused_text (number_of r) at (need_of r)
-    go (rule.Good os) a = let z : ◌≡◌ {A = ℕ} 0 1 = cc in absurd (omega arith)
-    go (rule.Faulty s b) a =
-        let p : s ≡ r = cc in
-        let q : b ≡ at = cc in
-        rw (p, q) (with-need (eqb (number_of r) 9))
+    go : (y : rule.Ops) → rule.read_answer y ≡ Err x → listing_of y (length l) ≡ refused_text (number_of x.why) x.at (need_of x.why)
+    go (rule.Good os) a = absurd (false≢true (ap is_err a))
+    go (rule.Faulty r at) a =
+        with-need r at (eqb (number_of r) 9)
+        ∙ ap (λ (z : DeltaFault). refused_text (number_of z.why) z.at (need_of z.why)) (err-is _ _ a)
 
 -- ---- a text at the front of a buffer
 
 module _ (text l : List ℕ) where
-  pub front-none : length l < length text → Gives (write_bytes text 0 l) (Refused NoPlace) l
+  pub front-none : length l < length text → Gives (write_bytes text 0 l) (Err NoPlace) l
   front-none h =
       let a = le-leb 0 (length l) (omega arith) in
       let b = lt-leb (length text) (length l - 0) (omega arith) in
       (rw (a, b), rw (a, b))
 
-  pub front-whole : (n : ℕ) (m : List ℕ) → length text ≤ length l → n ≡ length text → m ≡ put 0 text l → Gives (write_bytes text 0 l) (Bytes n) m
+  pub front-whole : (n : ℕ) (m : List ℕ) → length text ≤ length l → n ≡ length text → m ≡ put 0 text l → Gives (write_bytes text 0 l) (Ok n) m
   front-whole n m h p q =
       let a = le-leb 0 (length l) (omega arith) in
       let b = le-leb (length text) (length l - 0) (omega arith) in
@@ -96,28 +97,21 @@ good-long l ops = simp length-append (omega arith)
 pub listing-most : (l : List ℕ) → length (listing l) ≤ longest_listing
 listing-most l = go (rule.delta_read l) refl
   where
-    go : (r : DeltaRead) → rule.delta_read l ≡ r → length (listing l) ≤ longest_listing
-    go (read.Good ops nodes) e =
-        let g : (listing l ≡ good_text l ops) × (length l ≤ max_delta) = listing-good l ops nodes e in
-        omega (arith, ap length g.0, g.1, good-long l ops, lines-most (length l) 0 l (omega arith), decimal-long ops, decimal-long (length l))
-    go (read.Refused r at) e =
-        omega (arith, ap length (listing-refused l r at e), refused-most (number_of r) at (need_of r))
+    go : (r : Result DeltaRead DeltaFault) → rule.delta_read l ≡ r → length (listing l) ≤ longest_listing
+    go (Ok x) e =
+        let g = listing-good l x e in
+        omega (arith, ap length g.0, g.1, good-long l x.ops, lines-most (length l) 0 l (omega arith), decimal-long x.ops, decimal-long (length l))
+    go (Err x) e = omega (arith, ap length (listing-refused l x e), refused-most (number_of x.why) x.at (need_of x.why))
 
 -- so a buffer of that size is never refused, and the answer is within it
 module _ (l out : List ℕ) (h : longest_listing ≤ length out) where
-  answered : (list_delta l out).answer ≡ Bytes (length (listing l))
+  answered : (list_delta l out).answer ≡ Ok (length (listing l))
   answered =
       let most = listing-most l in
       rw (le-leb 0 (length out) (omega arith), le-leb (length (listing l)) (length out - 0) (omega arith))
 
-  pub front_fits : (r : Refusal) → (list_delta l out).answer ≡ Refused r → ⊥
-  front_fits r e =
-      let f = sym answered ∙ e in
-      let z : ◌≡◌ {A = ℕ} 0 1 = cc in
-      omega arith
+  pub front_fits : (r : Refusal) → (list_delta l out).answer ≡ Err r → ⊥
+  front_fits r e = false≢true (ap is_err (sym answered ∙ e))
 
-  pub front-within : (k : ℕ) → (list_delta l out).answer ≡ Bytes k → k ≤ length out
-  front-within k e =
-      let f = sym answered ∙ e in
-      let g : length (listing l) ≡ k = cc in
-      omega (arith, listing-most l)
+  pub front-within : (k : ℕ) → (list_delta l out).answer ≡ Ok k → k ≤ length out
+  front-within k e = omega (arith, listing-most l, ok-is _ _ (sym answered ∙ e))

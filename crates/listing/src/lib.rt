@@ -11,7 +11,7 @@ ghost use Rattle.rules.specs.Listing.{list_delta};
 ghost use Rattle.listing_text.specs.Texts.{TextFits, put_text};
 ghost use Rattle.listing.specs.Shapes.{cut_text, fault_text, good_text, refused_text};
 
-use rules::{DeltaRead, Refusal, Written, sizes};
+use rules::{Refusal, sizes};
 
 // What a last line has beside numbers, of a delta accepted or refused.
 const GOOD: usize = 19;
@@ -27,7 +27,7 @@ const CUT_NUMBER: u64 = 9;
 pub const LONGEST: usize = 5 * sizes::LONGEST_DELTA + GOOD + 20 + 20;
 
 // Of a delta that was accepted with so many operations.
-fn list_good(delta: &[u8], out: &mut [u8], ops: usize) -> Written
+fn list_good(delta: &[u8], out: &mut [u8], ops: usize) -> Result<usize, Refusal>
     requires { length delta.now ≤ max_delta }
     ensures { Gives (write_bytes (good_text delta.now ops) 0 out.old) result out.new }
 {
@@ -38,11 +38,11 @@ fn list_good(delta: &[u8], out: &mut [u8], ops: usize) -> Written
         + listing_text::decimal_len(count)
         + listing_text::decimal_len(bytes);
     if out.len() < n {
-        return Written::Refused(Refusal::NoPlace);
+        return Err(Refusal::NoPlace);
     }
     let at = listing_ops::put_lines(delta, out);
     listing_ops::put_two_numbers(out, at, b"end=ok ops=", count, b" bytes=", bytes);
-    Written::Bytes(n)
+    Ok(n)
 }
 
 // The line of a delta that was refused with this number at this place, and so many bytes lacking.
@@ -55,7 +55,7 @@ fn put_cut(out: &mut [u8], code: u64, at: u64, need: u64) -> usize
 }
 
 // Of a delta that was refused with this number at this place, and so many bytes lacking.
-fn list_cut(out: &mut [u8], code: u64, at: u64, need: u64) -> Written
+fn list_cut(out: &mut [u8], code: u64, at: u64, need: u64) -> Result<usize, Refusal>
     ensures { Gives (write_bytes (cut_text code at need) 0 out.old) result out.new }
 {
     let n = CUT
@@ -63,26 +63,26 @@ fn list_cut(out: &mut [u8], code: u64, at: u64, need: u64) -> Written
         + listing_text::decimal_len(at)
         + listing_text::decimal_len(need);
     if out.len() < n {
-        return Written::Refused(Refusal::NoPlace);
+        return Err(Refusal::NoPlace);
     }
     put_cut(out, code, at, need);
-    Written::Bytes(n)
+    Ok(n)
 }
 
 // Of a delta that was refused with this number at this place.
-fn list_fault(out: &mut [u8], code: u64, at: u64) -> Written
+fn list_fault(out: &mut [u8], code: u64, at: u64) -> Result<usize, Refusal>
     ensures { Gives (write_bytes (fault_text code at) 0 out.old) result out.new }
 {
     let n = REFUSED + listing_text::decimal_len(code) + listing_text::decimal_len(at);
     if out.len() < n {
-        return Written::Refused(Refusal::NoPlace);
+        return Err(Refusal::NoPlace);
     }
     listing_ops::put_two_numbers(out, 0, b"end=refused code=", code, b" at=", at);
-    Written::Bytes(n)
+    Ok(n)
 }
 
 // Of a delta that was refused: what is lacking is told with 9 only.
-fn list_refused(out: &mut [u8], code: u64, at: u64, need: u64) -> Written
+fn list_refused(out: &mut [u8], code: u64, at: u64, need: u64) -> Result<usize, Refusal>
     ensures { Gives (write_bytes (refused_text code at need) 0 out.old) result out.new }
 {
     if code == CUT_NUMBER {
@@ -92,14 +92,14 @@ fn list_refused(out: &mut [u8], code: u64, at: u64, need: u64) -> Written
 }
 
 // The listing of any bytes, at the front of the buffer, and its length. 8, and nothing changed, where the buffer is too short.
-pub fn list_delta(delta: &[u8], out: &mut [u8]) -> Written
+pub fn list_delta(delta: &[u8], out: &mut [u8]) -> Result<usize, Refusal>
     ensures { Tells written_told (list_delta delta.now out.old) result out.new }
 {
-    let read = delta_read::read_delta(delta);
-    match read {
-        DeltaRead::Good { ops, nodes: _ } => list_good(delta, out, ops),
-        DeltaRead::Refused { why, at } => {
-            list_refused(out, why.number(), at as u64, why.need() as u64)
+    match delta_read::read_delta(delta) {
+        Ok(read) => list_good(delta, out, read.ops),
+        Err(fault) => {
+            let why = fault.why;
+            list_refused(out, why.number(), fault.at as u64, why.need() as u64)
         }
     }
 }

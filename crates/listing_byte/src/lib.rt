@@ -25,6 +25,7 @@ pub fn is_plain(b: u8) -> bool
 }
 
 // The capital hexadecimal digit of a number below 16.
+#[tactic(auto, unfolding(rules::specs::Listing::hex_digit))]
 pub fn hex_digit(n: u8) -> u8
     requires { n < 16 }
     ensures { result ≡ hex_digit n }

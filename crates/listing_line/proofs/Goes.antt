@@ -6,7 +6,7 @@ use mathlib.Core.List.{[], ◌∷◌, ◌++◌}
 use native.Mathlib.Omega.{arith}
 use lib.Dec.{T, leb}
 use lib.ListN.{length, drop, take}
-use lib.Seq.{take_at}
+use lib.Seq.{length-take-le, take_at}
 use borrow.Author.Tests.{le-leb}
 use Rattle.fields.specs.Choice.{pick}
 use Rattle.fields.specs.Numbers.{Bytes}
@@ -21,14 +21,11 @@ use Rattle.rules.specs.Listing.{line_feed}
 use Rattle.rules.specs.Sizes.{max_key, max_value}
 use Rattle.rules.specs.declared.Status.{Status}
 use Rattle.delta_write.specs.Written.{key_value, write_op}
-use Rattle.delta_write.specs.declared.Wrote.{Wrote}
-use Rattle.delta_write.specs.declared.Wrote.TheVariants as wrote
-use Rattle.listing_read.specs.Unlist.{Line, LineRead, NoLine, closed, number_form, printed, text_form, unshown, word}
-use Rattle.listing_words.specs.Words.{number_at, piece_of, text_at, text_fits}
+use Rattle.std.specs.Prelude.{None, Option, Some}
 use Rattle.listing_words.specs.declared.Numeral.{Numeral}
-use Rattle.listing_words.specs.declared.Numeral.TheVariants as numeral
 use Rattle.listing_words.specs.declared.Shown.{Shown}
-use Rattle.listing_words.specs.declared.Shown.TheVariants as shown
+use Rattle.listing_read.specs.Unlist.{Line, LineRead, NoLine, closed, number_form, printed, text_form, unshown, word}
+use Rattle.listing_words.specs.Words.{Stored, number_at, piece_of, text_at}
 use Rattle.listing_words.proofs.Read.{number-none, number-printed, text-none, text-printed}
 use Rattle.listing_line.specs.Told.{LineTold, longest_op, size_told}
 
@@ -58,28 +55,28 @@ not-word name next l out t e q = goes_other name NoLine next l t e 0 out q refl
 
 -- ---- a number
 
-module _ (next : ℕ → Bytes → LineRead) (l : Bytes) (read : Numeral) (e : read ≡ number_at l) where
-  pub no_number : (out : Bytes) → read ≡ numeral.Not → LineTold (printed number_form next l) 0 out
-  no_number out q = as_read (printed number_form next l) NoLine 0 out (number-none l next read e q) refl
+module _ (next : ℕ → Bytes → LineRead) (l : Bytes) (read : Option Numeral) (e : read ≡ number_at l) where
+  pub no_number : (out : Bytes) → read ≡ None → LineTold (printed number_form next l) 0 out
+  no_number out h = as_read (printed number_form next l) NoLine 0 out (number-none l next read e h) refl
 
-  pub goes_number : (v n : ℕ) (rest : Bytes) (r : ℕ) (out : Bytes) → read ≡ numeral.Is v n → rest ≡ drop n l → LineTold (next v rest) r out
+  pub goes_number : (x : Numeral) (rest : Bytes) (r : ℕ) (out : Bytes) → read ≡ Some x → rest ≡ drop x.len l → LineTold (next x.value rest) r out
       → LineTold (printed number_form next l) r out
-  goes_number v n rest r out q p h =
-      as_read (printed number_form next l) (next v rest) r out (number-printed l next read e v n q ∙ ap (next v) (sym p)) h
+  goes_number x rest r out q p h =
+      as_read (printed number_form next l) (next x.value rest) r out (number-printed l next read e x q ∙ ap (next x.value) (sym p)) h
 
 -- behind a word
 module _ (name : Bytes) (next : ℕ → Bytes → LineRead) (l : Bytes) (t : Bool) (e : t ≡ starts_with name l) where
   pub no_word : (out : Bytes) → t ≡ false → LineTold (word name NoLine (printed number_form next) l) 0 out
   no_word out q = not-word name (printed number_form next) l out t e q
 
-  module _ (rest : Bytes) (q : t ≡ true) (p : rest ≡ drop (length name) l) (read : Numeral) (f : read ≡ number_at rest) where
-    pub word-no-number : (out : Bytes) → read ≡ numeral.Not → LineTold (word name NoLine (printed number_form next) l) 0 out
+  module _ (rest : Bytes) (q : t ≡ true) (p : rest ≡ drop (length name) l) (read : Option Numeral) (f : read ≡ number_at rest) where
+    pub word-no-number : (out : Bytes) → read ≡ None → LineTold (word name NoLine (printed number_form next) l) 0 out
     word-no-number out h = goes-word name NoLine (printed number_form next) l t e rest 0 out q p (no_number next rest read f out h)
 
-    pub word_number : (v n : ℕ) (tail : Bytes) (r : ℕ) (out : Bytes) → read ≡ numeral.Is v n → tail ≡ drop n rest → LineTold (next v tail) r out
+    pub word_number : (x : Numeral) (tail : Bytes) (r : ℕ) (out : Bytes) → read ≡ Some x → tail ≡ drop x.len rest → LineTold (next x.value tail) r out
         → LineTold (word name NoLine (printed number_form next) l) r out
-    word_number v n tail r out g k h =
-        goes-word name NoLine (printed number_form next) l t e rest r out q p (goes_number next rest read f v n tail r out g k h)
+    word_number x tail r out g k h =
+        goes-word name NoLine (printed number_form next) l t e rest r out q p (goes_number next rest read f x tail r out g k h)
 
 -- ---- a key or a value, behind a word
 
@@ -87,28 +84,34 @@ module _ (name : Bytes) (most : ℕ) (next : Bytes → Bytes → LineRead) (l : 
   pub no-text-word : (out : Bytes) → t ≡ false → LineTold (word name NoLine (printed (text_form most) next) l) 0 out
   no-text-word out q = not-word name (printed (text_form most) next) l out t e q
 
-  module _ (rest left : Bytes) (q : t ≡ true) (p : rest ≡ drop (length name) l) (read : Shown)
-      (f : (read ≡ text_at most rest)
-      × (text_fits most (unshown (piece_of rest)) ≡ true → take (length (unshown (piece_of rest))) left ≡ unshown (piece_of rest))) where
-    pub word-no-text : (out : Bytes) → read ≡ shown.Not → LineTold (word name NoLine (printed (text_form most) next) l) 0 out
+  module _ (rest left : Bytes) (q : t ≡ true) (p : rest ≡ drop (length name) l) (read : Option Shown)
+      (f : (read ≡ text_at most rest) × Stored most (unshown (piece_of rest)) left) where
+    pub word-no-text : (out : Bytes) → read ≡ None → LineTold (word name NoLine (printed (text_form most) next) l) 0 out
     word-no-text out h =
         goes-word name NoLine (printed (text_form most) next) l t e rest 0 out q p
         (as_read (printed (text_form most) next rest) NoLine 0 out (text-none most rest left next read f.0 f.1 h) refl)
 
-    pub text-few : (n k : ℕ) → read ≡ shown.Is n k → n ≤ most
-    text-few n k g = (text-printed most rest left next read f.0 f.1 n k g).1
+    module _ (x : Shown) (g : read ≡ Some x) where
+      few : x.len ≤ most
+      few = (text-printed most rest left next read f.0 f.1 x g).1
 
-    pub word-text : (n k : ℕ) (text tail : Bytes) (r : ℕ) (out : Bytes) → read ≡ shown.Is n k → text ≡ take n left → tail ≡ drop k rest
-        → LineTold (next text tail) r out → LineTold (word name NoLine (printed (text_form most) next) l) r out
-    word-text n k text tail r out g a b h =
-        goes-word name NoLine (printed (text_form most) next) l t e rest r out q p
-        (as_read (printed (text_form most) next rest) (next text tail) r out
-        ((text-printed most rest left next read f.0 f.1 n k g).0 ∙ ap (λ (x : Bytes). next x (drop k rest)) (sym a) ∙ ap (next text) (sym b)) h)
+      pub text-held : length left ≡ most → x.len ≤ length left
+      text-held s = omega (arith, few)
+
+      pub text-few : length left ≡ most → length (take x.len left) ≤ most
+      text-few s = omega (arith, few, length-take-le x.len left (text-held s))
+
+      pub word-text : (tail : Bytes) (r : ℕ) (out : Bytes) → tail ≡ drop x.took rest → LineTold (next (take x.len left) tail) r out
+          → LineTold (word name NoLine (printed (text_form most) next) l) r out
+      word-text tail r out b h =
+          goes-word name NoLine (printed (text_form most) next) l t e rest r out q p
+          (as_read (printed (text_form most) next rest) (next (take x.len left) tail) r out
+          ((text-printed most rest left next read f.0 f.1 x g).0 ∙ ap (next (take x.len left)) (sym b)) h)
 
 -- ---- the end of a line
 
 -- what stands at the front when an operation was written
-written : (o : Op) (out left : Bytes) (w : Wrote) → size_of o ≤ length out → Gives (write_op o out) w left
+written : (o : Op) (out left : Bytes) (w : Option ℕ) → size_of o ≤ length out → Gives (write_op o out) w left
     → (size_told w ≡ size_of o) × (take (size_told w) left ≡ op_bytes o)
 unfolding write_op size_of put
 written o out left w h g = go (leb (length (op_bytes o)) (length out)) (le-leb (length (op_bytes o)) (length out) h) g.0 g.1
@@ -116,8 +119,8 @@ written o out left w h g = go (leb (length (op_bytes o)) (length out)) (le-leb (
     bytes : Bytes
     bytes = op_bytes o
 
-    go : (t : Bool) → t ≡ true → w ≡ (pick t (given (wrote.Bytes (length bytes)) (put 0 bytes out)) (given wrote.NoFit out)).answer
-        → left ≡ (pick t (given (wrote.Bytes (length bytes)) (put 0 bytes out)) (given wrote.NoFit out)).lent
+    go : (t : Bool) → t ≡ true → w ≡ (pick t (given (Some (length bytes)) (put 0 bytes out)) (given None out)).answer
+        → left ≡ (pick t (given (Some (length bytes)) (put 0 bytes out)) (given None out)).lent
         → (size_told w ≡ length bytes) × (take (size_told w) left ≡ bytes)
     go true q a b =
         let size : size_told w ≡ length bytes = ap size_told a in
@@ -143,7 +146,7 @@ module _ (o : Op) (l : Bytes) (t : Bool) (e : t ≡ same_bytes line_feed l) wher
   pub no_end : (out : Bytes) → t ≡ false → LineTold (closed o l) 0 out
   no_end out q = let f : same_bytes line_feed l ≡ false = cc in not-closed o l out f
 
-  pub ends : (out left : Bytes) (w : Wrote) (r : ℕ) → t ≡ true → size_of o ≤ length out → Gives (write_op o out) w left → r ≡ size_told w
+  pub ends : (out left : Bytes) (w : Option ℕ) (r : ℕ) → t ≡ true → size_of o ≤ length out → Gives (write_op o out) w left → r ≡ size_told w
       → LineTold (closed o l) r left
   ends out left w r q h g p =
       let f : same_bytes line_feed l ≡ true = cc in

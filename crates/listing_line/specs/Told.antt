@@ -4,8 +4,7 @@ use Rattle.std.specs.Prelude.{ℕ, ◌+◌, ◌≡◌, [], ◌∷◌, take}
 use Rattle.fields.specs.Numbers.{Bytes}
 use Rattle.rules.specs.Delta.{beside_texts, op_bytes, size_of}
 use Rattle.rules.specs.Sizes.{max_key, max_value}
-use Rattle.delta_write.specs.declared.Wrote.{Wrote}
-use Rattle.delta_write.specs.declared.Wrote.TheVariants as wrote
+use Rattle.std.specs.Prelude.{None, Option, Some}
 use Rattle.listing_read.specs.Unlist.{Line, LineRead, NoLine}
 
 -- the most bytes of an operation
@@ -18,6 +17,6 @@ LineTold (Line o (b ∷ l)) r out = r ≡ 0
 LineTold NoLine r out = r ≡ 0
 
 -- how many bytes were written
-abbrev pub size_told : Wrote → ℕ
-size_told (wrote.Bytes n) = n
-size_told wrote.NoFit = 0
+abbrev pub size_told : (Option ℕ) → ℕ
+size_told (Some n) = n
+size_told None = 0

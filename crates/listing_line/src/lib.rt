@@ -10,7 +10,6 @@ ghost use Rattle.listing_read.specs.Unlist.{after_gc, after_id, after_key, after
 ghost use Rattle.listing_read.specs.Unlist.{after_version, closed, number_form, printed, read_line, status};
 ghost use Rattle.listing_line.specs.Told.{LineTold, longest_op, size_told};
 
-use delta_write::Wrote;
 use listing_words::{Numeral, Shown};
 use rules::{Record, Status, wire};
 
@@ -28,13 +27,10 @@ fn behind(text: &[u8], n: usize) -> &[u8]
 }
 
 // How many bytes were written.
-fn size_of(wrote: Wrote) -> usize
+fn size_of(wrote: Option<usize>) -> usize
     ensures { result ≡ size_told wrote }
 {
-    match wrote {
-        Wrote::Bytes(n) => n,
-        Wrote::NoFit => 0,
-    }
+    wrote.unwrap_or(0)
 }
 
 // ---- a Node
@@ -59,11 +55,10 @@ fn after_gc(text: &[u8], number: u64, last_gc: u64, out: &mut [u8]) -> usize
         return 0;
     }
     let rest = behind(text, 6);
-    let read = listing_words::number(rest);
-    match read {
-        Numeral::Not => 0,
-        Numeral::Is { value, len } => node_end(behind(rest, len), number, last_gc, value, out),
-    }
+    let Some(Numeral { value, len }) = listing_words::number(rest) else {
+        return 0;
+    };
+    node_end(behind(rest, len), number, last_gc, value, out)
 }
 
 // Behind its number.
@@ -75,22 +70,20 @@ fn after_id(text: &[u8], number: u64, out: &mut [u8]) -> usize
         return 0;
     }
     let rest = behind(text, 4);
-    let read = listing_words::number(rest);
-    match read {
-        Numeral::Not => 0,
-        Numeral::Is { value, len } => after_gc(behind(rest, len), number, value, out),
-    }
+    let Some(Numeral { value, len }) = listing_words::number(rest) else {
+        return 0;
+    };
+    after_gc(behind(rest, len), number, value, out)
 }
 
 fn node_line(text: &[u8], out: &mut [u8]) -> usize
     requires { longest_op ≤ length out.old }
     ensures { LineTold (printed number_form after_id text.now) result out.new }
 {
-    let read = listing_words::number(text);
-    match read {
-        Numeral::Not => 0,
-        Numeral::Is { value, len } => after_id(behind(text, len), value, out),
-    }
+    let Some(Numeral { value, len }) = listing_words::number(text) else {
+        return 0;
+    };
+    after_id(behind(text, len), value, out)
 }
 
 // ---- a SetMaxVersion
@@ -109,11 +102,10 @@ fn max_line(text: &[u8], out: &mut [u8]) -> usize
     requires { longest_op ≤ length out.old }
     ensures { LineTold (printed number_form after_max text.now) result out.new }
 {
-    let read = listing_words::number(text);
-    match read {
-        Numeral::Not => 0,
-        Numeral::Is { value, len } => after_max(behind(text, len), value, out),
-    }
+    let Some(Numeral { value, len }) = listing_words::number(text) else {
+        return 0;
+    };
+    after_max(behind(text, len), value, out)
 }
 
 // ---- a record
@@ -146,13 +138,10 @@ fn after_key(text: &[u8], version: u64, status: Status, key: &[u8], out: &mut [u
     }
     let rest = behind(text, 7);
     let mut value = [0u8; Record::VALUE];
-    let read = listing_words::text(rest, &mut value);
-    match read {
-        Shown::Not => 0,
-        Shown::Is { len, took } => {
-            record_end(behind(rest, took), version, status, key, &value[..len], out)
-        }
-    }
+    let Some(Shown { len, took }) = listing_words::text(rest, &mut value) else {
+        return 0;
+    };
+    record_end(behind(rest, took), version, status, key, &value[..len], out)
 }
 
 // Behind its status.
@@ -165,13 +154,10 @@ fn after_status(text: &[u8], version: u64, status: Status, out: &mut [u8]) -> us
     }
     let rest = behind(text, 5);
     let mut key = [0u8; Record::KEY];
-    let read = listing_words::text(rest, &mut key);
-    match read {
-        Shown::Not => 0,
-        Shown::Is { len, took } => {
-            after_key(behind(rest, took), version, status, &key[..len], out)
-        }
-    }
+    let Some(Shown { len, took }) = listing_words::text(rest, &mut key) else {
+        return 0;
+    };
+    after_key(behind(rest, took), version, status, &key[..len], out)
 }
 
 // From its status on.
@@ -206,11 +192,10 @@ fn record_line(text: &[u8], out: &mut [u8]) -> usize
     requires { longest_op ≤ length out.old }
     ensures { LineTold (printed number_form after_version text.now) result out.new }
 {
-    let read = listing_words::number(text);
-    match read {
-        Numeral::Not => 0,
-        Numeral::Is { value, len } => after_version(behind(text, len), value, out),
-    }
+    let Some(Numeral { value, len }) = listing_words::number(text) else {
+        return 0;
+    };
+    after_version(behind(text, len), value, out)
 }
 
 // ---- the line

@@ -23,7 +23,8 @@ use Rattle.rules.proofs.Deltas.{AllSmall, read_none}
 use Rattle.rules.proofs.Ops.{read-written}
 use Rattle.listing_read.specs.Unlist.{All, BadLine, Delta, Faulty, Lines, NotInForm, Unlisted, judged, of_lines, read_lines, unlist}
 use Rattle.listing_read.proofs.Relisted.{lines_are}
-use Rattle.delta_make.specs.declared.Made.TheVariants as made
+use Rattle.std.specs.Prelude.{Ok}
+use Rattle.delta_make.specs.Making.{refused_at}
 use Rattle.listing_make.specs.Make.{lent_make, lent_unlisted, made_told, placed}
 
 -- ---- reading whole operations
@@ -126,7 +127,7 @@ unfolding placed made_told
 placed-number b out = go (leb (length b) (length out))
   where
     go : (t : Bool)
-        → (made_told (pick t (given (made.Bytes (length b)) (put 0 b out)) (given (made.Refused NoPlace 0) out)).answer).number ∈ (0 ∷ 16 ∷ 13 ∷ 11 ∷ 12 ∷ 8 ∷ [])
+        → (made_told (pick t (given (Ok (length b)) (put 0 b out)) (given (refused_at NoPlace 0) out)).answer).number ∈ (0 ∷ 16 ∷ 13 ∷ 11 ∷ 12 ∷ 8 ∷ [])
     go true = here refl
     go false = later (later (later (later (later (here refl)))))
 

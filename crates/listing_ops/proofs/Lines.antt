@@ -15,8 +15,7 @@ use Rattle.rules.specs.declared.Status.TheVariants.{Set, Delete, Ttl}
 use Rattle.rules.specs.declared.Refusal.{Refusal}
 use Rattle.delta_op.specs.declared.Op.{Op}
 use Rattle.delta_op.specs.declared.Op.TheVariants.{Node, KeyValue, SetMaxVersion}
-use Rattle.delta_op.specs.declared.OpRead.{OpRead}
-use Rattle.delta_op.specs.declared.OpRead.TheVariants.{Got, Bad}
+use Rattle.std.specs.Prelude.{Err, Ok, Result}
 use Rattle.delta_op.specs.Places.{op_of, op_at, Inside, width_of}
 use Rattle.delta_op.proofs.Reading.{Within, op-within, le-or-lt}
 use Rattle.delta_op.proofs.Plain.{plain_end, plain-bad, plain-next}
@@ -70,7 +69,7 @@ line-short l (SetMaxVersion m) i = omega (arith, max-long m, decimal-long m)
 -- ---- the lines
 
 -- an operation that was read takes its bytes
-pub within : (l : List ℕ) (at : ℕ) (o : Op) (next : ℕ) → op_at l at ≡ Got o next → Within (length l) at (Got o next)
+pub within : (l : List ℕ) (at : ℕ) (o : Op) (next : ℕ) → op_at l at ≡ (Ok (o, next)) → Within (length l) at (Ok (o, next))
 within l at o next e = subst (Within (length l) at) e (op-within l at)
 
 module _ (l : List ℕ) (at : ℕ) where
@@ -79,11 +78,11 @@ module _ (l : List ℕ) (at : ℕ) where
   lines_end h = ap (flat op_line) (plain_end l at h)
 
   module _ (h : at < length l) where
-    pub lines-bad : (r : Refusal) → op_at l at ≡ Bad r → lines_from l at ≡ []
+    pub lines-bad : (r : Refusal) → op_at l at ≡ Err r → lines_from l at ≡ []
     unfolding lines_from flat
     lines-bad r e = ap (flat op_line) (plain-bad l at r h e)
 
-    pub lines_next : (o : Op) (next : ℕ) → op_at l at ≡ Got o next → lines_from l at ≡ op_line (op_of l o) ++ lines_from l next
+    pub lines_next : (o : Op) (next : ℕ) → op_at l at ≡ (Ok (o, next)) → lines_from l at ≡ op_line (op_of l o) ++ lines_from l next
     unfolding lines_from flat
     lines_next o next e = ap (flat op_line) (plain-next l at o next h e)
 
@@ -95,11 +94,11 @@ lines-most (suc k) at l h = elim (le-or-lt (length l) at) [
   | inr g ↦ go (op_at l at) refl (op-within l at) g (λ next e. lines-most k next l e)
 ]
   where
-    go : (r : OpRead) → op_at l at ≡ r → Within (length l) at r → at < length l
+    go : (r : (Result (Op × ℕ) Refusal)) → op_at l at ≡ r → Within (length l) at r → at < length l
         → ((next : ℕ) → length l ≤ next + k → length (lines_from l next) ≤ 5 * (length l - next))
         → length (lines_from l at) ≤ 5 * (length l - at)
-    go (Bad r) e w g ih = omega (arith, ap length (lines-bad l at g r e))
-    go (Got o next) e w g ih =
+    go (Err r) e w g ih = omega (arith, ap length (lines-bad l at g r e))
+    go (Ok (o, next)) e w g ih =
         let d : length (lines_from l at) ≡ length (op_line (op_of l o)) + length (lines_from l next) =
         ap length (lines_next l at g o next e) ∙ length-append (op_line (op_of l o)) (lines_from l next) in
         omega (arith, d, line-short l o w.2, ih next (omega arith), w.0, w.1, w.3)

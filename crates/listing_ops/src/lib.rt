@@ -10,7 +10,7 @@ ghost use Rattle.delta_op.specs.Places.{Inside, op_of};
 ghost use Rattle.listing_text.specs.Texts.{TextFits, put_text};
 ghost use Rattle.listing_ops.specs.Lines.{lines_from, record_line, texts_text, two_numbers, version_text};
 
-use delta_op::{Op, OpRead};
+use delta_op::Op;
 use rules::Status;
 
 // ---- how long the lines are
@@ -83,17 +83,13 @@ pub fn lines_len(delta: &[u8]) -> usize
 {
     let mut n: usize = 0;
     let mut at: usize = 0;
+    // No `for`: where the next operation stands, the one before it tells.
     while at < delta.len() {
-        let read = delta_op::read_op(delta, at);
-        match read {
-            OpRead::Bad(_) => {
-                return n;
-            }
-            OpRead::Got { op, next } => {
-                n += line_len(delta, op);
-                at = next;
-            }
-        }
+        let Ok((op, next)) = delta_op::read_op(delta, at) else {
+            return n;
+        };
+        n += line_len(delta, op);
+        at = next;
     }
     n
 }
@@ -205,17 +201,13 @@ pub fn put_lines(delta: &[u8], out: &mut [u8]) -> usize
 {
     let mut n: usize = 0;
     let mut at: usize = 0;
+    // No `for`: where the next operation stands, the one before it tells.
     while at < delta.len() {
-        let read = delta_op::read_op(delta, at);
-        match read {
-            OpRead::Bad(_) => {
-                return n;
-            }
-            OpRead::Got { op, next } => {
-                n = put_line(delta, op, out, n);
-                at = next;
-            }
-        }
+        let Ok((op, next)) = delta_op::read_op(delta, at) else {
+            return n;
+        };
+        n = put_line(delta, op, out, n);
+        at = next;
     }
     n
 }

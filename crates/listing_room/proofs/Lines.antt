@@ -11,7 +11,7 @@ use Rattle.fields.specs.Numbers.{Bytes}
 use Rattle.fields.specs.Parts.{put}
 use Rattle.fields.proofs.Parts.{put-nil}
 use Rattle.listing_room.specs.Room.{Ends, within}
-use Rattle.listing_room.proofs.Room.{Put, then, within-long}
+use Rattle.listing_room.proofs.Room.{Put, then}
 
 -- the text was to be written from `at` on into the buffer `before`; `left` is to be written from n on into the buffer as it is now
 pub record Left (at : ℕ) (text before : Bytes) (n : ℕ) (left now : Bytes) : Type 0 where
@@ -19,14 +19,7 @@ pub record Left (at : ℕ) (text before : Bytes) (n : ℕ) (left now : Bytes) : 
   pub same : put n (within (length now) n left) now ≡ put at (within (length before) at text) before
 
 module _ (at : ℕ) (text before : Bytes) where
-  pub left-all : Left at text before at text before
-  left-all = record { ends = refl; same = refl }
-
   module _ (n : ℕ) (now : Bytes) where
-    -- a buffer stays as long
-    pub left-long : (left : Bytes) → Left at text before n left now → length now ≡ length before
-    left-long left l = sym (within-long n left now) ∙ ap length l.same ∙ within-long at text before
-
     -- nothing is left
     pub left-none : Left at text before n [] now → Put at text before now n
     left-none l = (omega (arith, l.ends), sym (put-nil n now) ∙ ap (λ (t : List ℕ). put n t now) (sym (take-nil {A = ℕ} (length now - n))) ∙ l.same)

@@ -3,33 +3,30 @@
 #![tactic(auto)]
 
 use anyhow::{Context, Result};
-use delta_make::Made;
-use rules::{Written, sizes};
+use delta_make::NotMade;
+use rules::sizes;
 use std::io::Write;
 use std::rt::Files;
 use std::{env, fs};
 
 // Whether the delta that was made is the one that was listed.
 fn tell<W: Write>(out: &mut W, same: bool) -> Result<()> {
-    if same {
-        return streams::put(out, b"made=same\n");
-    }
-    streams::put(out, b"made=other\n")
+    let said = if same { "made=same\n" } else { "made=other\n" };
+    streams::put(out, said.as_bytes())
 }
 
 // What comes of the delta's listing, cut into two pieces.
 fn read_back<W: Write>(out: &mut W, delta: &[u8], text: &[u8]) -> Result<()> {
     let mut line = [0u8; delta_make::LONGEST_LINE];
     let mut room = [0u8; delta_put::ROOM];
-    let first = delta_put::front(text, 100);
-    let rest = delta_put::behind(text, 100);
+    let (first, rest) = text.split_at(text.len().min(100));
     let begun = delta_make::take_in(delta_make::start(), first, &mut line, &mut room);
     let making = delta_make::take_in(begun, rest, &mut line, &mut room);
     let made = delta_make::finish(making, &room);
     match made {
-        Made::Bytes(n) => tell(out, fields::same(delta_put::front(&room, n), delta)),
-        Made::BadLine(_) => delta_put::put(out, making, &room),
-        Made::Refused { why: _, at: _ } => delta_put::put(out, making, &room),
+        Ok(n) => tell(out, fields::same(delta_put::front(&room, n), delta)),
+        Err(NotMade::BadLine(_)) => delta_put::put(out, making, &room),
+        Err(NotMade::Refused(_)) => delta_put::put(out, making, &room),
     }
 }
 
@@ -38,8 +35,8 @@ fn back<W: Write>(out: &mut W, delta: &[u8]) -> Result<()> {
     let mut text = [0u8; listing::LONGEST];
     let listed = listing::list_delta(delta, &mut text);
     match listed {
-        Written::Bytes(n) => read_back(out, delta, delta_put::front(&text, n)),
-        Written::Refused(_) => unreachable!(),
+        Ok(n) => read_back(out, delta, delta_put::front(&text, n)),
+        Err(_) => unreachable!(),
     }
 }
 

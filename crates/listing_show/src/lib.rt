@@ -7,7 +7,6 @@ ghost use Rattle.std.specs.Io.KnownBytes.{Appends};
 ghost use Rattle.rules.specs.Listing.{listing};
 
 use anyhow::Result;
-use rules::Written;
 use std::io::Write;
 
 pub fn show<W: Write>(out: &mut W, delta: &[u8]) -> Result<()>
@@ -16,7 +15,7 @@ pub fn show<W: Write>(out: &mut W, delta: &[u8]) -> Result<()>
     let mut output = [0u8; listing::LONGEST];
     let listed = listing::list_delta(delta, &mut output);
     match listed {
-        Written::Bytes(n) => streams::put(out, &output[..n]),
-        Written::Refused(_) => unreachable!(),
+        Ok(n) => streams::put(out, &output[..n]),
+        Err(_) => unreachable!(),
     }
 }

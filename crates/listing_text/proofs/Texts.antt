@@ -1,6 +1,6 @@
 -- Laws of texts in a buffer and of decimal digits: one text behind another is the two joined; a number's digits are those of its tenth and one
 -- more, and at most twenty. Assumes nothing.
-use Prim.Native.Nat.{ℕ, zero, suc, ◌+◌, ◌*◌, ◌/◌, ◌%◌, ◌^◌, ◌≤◌, ◌<◌}
+use Prim.Native.Nat.{ℕ, zero, suc, ◌+◌, ◌-◌, ◌*◌, ◌/◌, ◌%◌, ◌^◌, ◌≤◌, ◌<◌}
 use mathlib.Core.Path.{◌≡◌, refl, ap, sym, ◌∙◌, subst}
 use native.Mathlib.Decide.{dec_le}
 use mathlib.Core.Bool.{Bool, true, false}
@@ -8,14 +8,14 @@ use mathlib.Core.List.{List, [], ◌∷◌, ◌++◌, append_assoc}
 use native.Mathlib.Omega.{arith}
 use native.Mathlib.Nat.{div-lt_iff_lt-mul, pow-suc}
 use native.Mathlib.Numerals.{add-one}
-use lib.ListN.{length, get_or, drop, length-append}
+use lib.ListN.{length, get_or, drop, set, length-append}
 use lib.Seq.{drop-cons}
 use lib.Dec.{lit<}
 use borrow.Author.Tests.{lt-ltb, le-ltb}
 use Rattle.fields.specs.Choice.{pick}
 use Rattle.fields.specs.Numbers.{Bytes}
 use Rattle.fields.specs.Parts.{put}
-use Rattle.fields.proofs.Parts.{put-behind, length-put}
+use Rattle.fields.proofs.Parts.{put-behind, put-nil, put-snoc, length-put}
 use Rattle.rules.specs.Given.{Gives}
 use Rattle.rules.specs.Listing.{digits, decimal, hex_digit, plain, shown_byte, shown_bytes}
 use Rattle.listing_text.specs.Texts.{TextFits, put_text}
@@ -124,6 +124,52 @@ digits-some (suc m) n b = elim (dec_le 10 n) [
 pub decimal-some : (n : ℕ) → 0 < length (decimal n)
 unfolding decimal
 decimal-some n = digits-some 19 n []
+
+-- the last digits of a number, as many as are asked for; all of them are its decimal
+unfoldable pub last_digits : (many n : ℕ) → Bytes
+last_digits zero n = []
+last_digits (suc k) n = last_digits k (n / 10) ++ ((48 + n % 10) ∷ [])
+
+pub last-all : (k n : ℕ) → n < 2 ^ 64 → k ≡ length (decimal n) → last_digits k n ≡ decimal n
+unfolding last_digits
+last-all zero n g e = absurd (omega (arith, decimal-some n))
+last-all (suc k) n g e = elim (dec_le 10 n) [
+  | yes h ↦
+      let more : decimal n ≡ decimal (n / 10) ++ ((48 + n % 10) ∷ []) = decimal-more n h g in
+      let few : k ≡ length (decimal (n / 10)) = omega (arith, ap length more, length-append (decimal (n / 10)) ((48 + n % 10) ∷ [])) in
+      ap (λ (r : List ℕ). r ++ ((48 + n % 10) ∷ [])) (last-all k (n / 10) (omega arith) few) ∙ sym more
+  | no h ↦
+      let one : decimal n ≡ (48 + n) ∷ [] = decimal-one n (omega arith) in
+      let none : k ≡ 0 = omega (arith, ap length one) in
+      let same : n % 10 ≡ n = omega arith in
+      rw (none, same, one)
+]
+
+long-last : (k n : ℕ) → length (last_digits k n) ≡ k
+unfolding last_digits
+long-last zero n = refl
+long-last (suc k) n = omega (arith, length-append (last_digits k (n / 10)) ((48 + n % 10) ∷ []), long-last k (n / 10))
+
+-- the last of them stored, the others are those of the tenth
+pub put-last : (at i n b : ℕ) (l t : Bytes) → at < i → i ≤ length l → b ≡ 48 + n % 10 → put at (last_digits (i - at) n) l ≡ t
+    → put at (last_digits (i - 1 - at) (n / 10)) (set l (i - 1) b) ≡ t
+unfolding last_digits
+put-last at i n b l t h g q p =
+    let k : ℕ = i - 1 - at in
+    let place : i - 1 ≡ at + length (last_digits k (n / 10)) = omega (arith, long-last k (n / 10)) in
+    let next : i - at ≡ suc k = omega arith in
+    ap (λ (j : ℕ). put at (last_digits k (n / 10)) (set l j b)) place
+    ∙ put-snoc at b (last_digits k (n / 10)) l (omega (arith, place))
+    ∙ ap (λ (x : ℕ). put at (last_digits k (n / 10) ++ (x ∷ [])) l) q
+    ∙ ap (λ (j : ℕ). put at (last_digits j n) l) (sym next)
+    ∙ p
+
+-- none is left
+pub put-none : (at i n : ℕ) (l t : Bytes) → i ≤ at → put at (last_digits (i - at) n) l ≡ t → l ≡ t
+unfolding last_digits
+put-none at i n l t e p =
+    let z : i - at ≡ 0 = omega arith in
+    sym (put-nil at l) ∙ ap (λ (j : ℕ). put at (last_digits j n) l) (sym z) ∙ p
 
 -- ---- bytes as they are shown
 

@@ -2,7 +2,7 @@
 // knows that there is room, and answers the place behind it.
 #![tactic(auto)]
 
-ghost use Rattle.std.specs.Prelude.{◌≡◌, ◌+◌, ◌/◌, ◌%◌, ◌≤◌, ◌<◌, length};
+ghost use Rattle.std.specs.Prelude.{◌≡◌, ◌+◌, ◌/◌, ◌%◌, ◌≤◌, length};
 ghost use Rattle.rules.specs.Given.{Gives};
 ghost use Rattle.rules.specs.Listing.{decimal, shown_byte, shown_bytes, status_text};
 ghost use Rattle.rules.specs.Sizes.{max_value};
@@ -16,19 +16,12 @@ pub fn decimal_len(v: u64) -> usize
 {
     let mut n: usize = 1;
     let mut left = v;
+    // Goes by what is left of the number, and by no index.
     while 10 <= left {
         left = left / 10;
         n += 1;
     }
     n
-}
-
-// The digit of a number below 10.
-fn digit(v: u64) -> u8
-    requires { v < 10 }
-    ensures { result ≡ 48 + v }
-{
-    48 + v as u8
 }
 
 // The last digit of a number with its tenth at hand, by the lowest four bits of both: `v % 10` beside `v / 10` is compiled to a 64-bit multiply, which the
@@ -48,15 +41,12 @@ pub fn put_decimal(out: &mut [u8], at: usize, v: u64) -> usize
     ensures { Gives (put_text at (decimal v) out.old) result out.new }
 {
     let end = at + decimal_len(v);
-    let mut i = end - 1;
     let mut left = v;
-    while 10 <= left {
+    for i in (at..end).rev() {
         let tenth = left / 10;
         out[i] = last_digit(left, tenth);
         left = tenth;
-        i -= 1;
     }
-    out[i] = digit(left);
     end
 }
 
@@ -77,10 +67,8 @@ pub fn shown_len(text: &[u8]) -> usize
     ensures { result ≡ length (shown_bytes text.now) }
 {
     let mut n: usize = 0;
-    let mut i: usize = 0;
-    while i < text.len() {
-        n += listing_byte::byte_len(text[i]);
-        i += 1;
+    for b in text {
+        n += listing_byte::byte_len(*b);
     }
     n
 }
@@ -104,10 +92,8 @@ pub fn put_shown(out: &mut [u8], at: usize, text: &[u8]) -> usize
     ensures { Gives (put_text at (shown_bytes text.now) out.old) result out.new }
 {
     let mut n = at;
-    let mut i: usize = 0;
-    while i < text.len() {
-        n = put_byte(out, n, text[i]);
-        i += 1;
+    for b in text {
+        n = put_byte(out, n, *b);
     }
     n
 }

@@ -9,7 +9,7 @@ use native.Mathlib.Omega.{arith}
 use lib.Dec.{eqb, leb, ltb}
 use lib.ListN.{length, drop, take, get_or, set, length-append, drop_of_length-le, length-drop}
 use lib.Seq.{drop-cons, length-take-le, take_at, take-suc-set}
-use borrow.Author.Tests.{eqb-true, le-leb, le-ltb, leb-true, lt-leb, lt-ltb, ltb-false, ltb-true}
+use borrow.Author.Tests.{eqb-true, le-leb, le-ltb, leb-true, lt-ltb, ltb-false, ltb-true}
 use Rattle.fields.specs.Choice.{◌∈◌, all, here, pick}
 use Rattle.fields.specs.Numbers.{Bytes}
 use Rattle.fields.specs.Order.{same_bytes}
@@ -17,18 +17,30 @@ use Rattle.fields.specs.Parts.{put}
 use Rattle.fields.proofs.Parts.{length-put}
 use Rattle.rules.specs.Given.{Gives}
 use Rattle.listing_text.specs.Texts.{put_text}
-use Rattle.fields.proofs.Choice.{all_from, and_assoc, and_intro, and_left, and_no, and_right, in_right}
+use Rattle.fields.proofs.Choice.{all_from, and_assoc, and_intro, and_left, and_right, in_right}
 use Rattle.rules.specs.Listing.{decimal, shown_bytes}
 use Rattle.listing_read.specs.Unlist.{LineRead, NoLine, front, hex_value, is_byte, is_digit, is_graphic, number_form, printed, text_form, unshown, value_from}
-use Rattle.listing_words.specs.Words.{count_of, digits_at, grown, number_at, numeral_of, piece_of, text_at, text_fits}
+use Rattle.listing_words.specs.Words.{Stored, TextRead, Unshows, count_of, digits_at, grown, number_at, numeral_of, piece_of, text_at, text_fits}
+use Rattle.std.specs.Prelude.{None, Option, Some}
+use Rattle.std.specs.Bool.{then_some}
+use Rattle.std.proofs.lemmas.Option.{none-some}
+use Rattle.rules.proofs.Results.{some-is}
 use Rattle.listing_words.specs.declared.Numeral.{Numeral}
-use Rattle.listing_words.specs.declared.Numeral.TheVariants as numeral
 use Rattle.listing_words.specs.declared.Shown.{Shown}
-use Rattle.listing_words.specs.declared.Shown.TheVariants as shown
-use Rattle.listing_words.specs.declared.Value.{Value}
-use Rattle.listing_words.specs.declared.Value.TheVariants as value
-use Rattle.listing_words.specs.declared.Count.{Count}
-use Rattle.listing_words.specs.declared.Count.TheVariants as count
+
+-- ---- what an answer that was picked holds
+
+picked : {X : Type 0} (t : Bool) (x y : X) → Some x ≡ pick t (Some y) None → (t ≡ true) × (x ≡ y)
+picked true x y e = (refl, some-is x y e)
+picked false x y e = absurd (none-some x (sym e))
+
+not-picked : {X : Type 0} (t : Bool) (y : X) → None ≡ pick t (Some y) None → t ≡ false
+not-picked true y e = absurd (none-some y e)
+not-picked false y e = refl
+
+then-picked : {X : Type 0} (t : Bool) (x : X) → then_some t x ≡ pick t (Some x) None
+then-picked true x = refl
+then-picked false x = refl
 
 -- ---- a text that was put to the front of a buffer
 
@@ -88,12 +100,6 @@ front-take p (b ∷ l) = go (p b) (front-take p l)
 
 -- ---- numbers
 
-pub digit_low : (b : ℕ) → b < 48 → is_digit b ≡ false
-digit_low b h = and_no (leb 48 b) (leb b 57) (lt-leb 48 b h)
-
-pub digit-high : (b : ℕ) → 48 ≤ b → leb b 57 ≡ is_digit b
-digit-high b h = rw (le-leb 48 b h)
-
 -- digits only make a number greater
 value_grows : (l : Bytes) (n : ℕ) → n ≤ value_from n l
 unfolding value_from
@@ -109,42 +115,34 @@ module _ (l : Bytes) (v i whole b : ℕ) (e : front is_digit (drop i l) ≡ b �
   length-next n h = omega (arith, ap length e)
 
 -- too large with some of the digits is too large with all
-pub value-over : (l d : Bytes) (w : ℕ) → 256 ^ 8 ≤ w → value_from w d ≡ value_from 0 l → numeral.Not ≡ numeral_of l
+pub value-over : (l d : Bytes) (w : ℕ) → 256 ^ 8 ≤ w → value_from w d ≡ value_from 0 l → None ≡ numeral_of l
 unfolding numeral_of
 value-over l d w h e =
     let big : 256 ^ 8 ≤ value_from 0 l = omega (arith, value_grows d w) in
     rw (le-ltb (value_from 0 l) (256 ^ 8) big)
 
-pub value-all : (l : Bytes) (v n : ℕ) → v < 256 ^ 8 → v ≡ value_from 0 l → n ≡ length l → numeral.Is v n ≡ numeral_of l
+pub value-all : (l : Bytes) (v n : ℕ) → v < 256 ^ 8 → v ≡ value_from 0 l → n ≡ length l → Some (record { value = v; len = n }) ≡ numeral_of l
 unfolding numeral_of
 value-all l v n h e g =
     let small : value_from 0 l < 256 ^ 8 = omega arith in
     rw (lt-ltb (value_from 0 l) (256 ^ 8) small, e, g)
 
 -- one digit more
-module _ (v b : ℕ) (r : Value) (e : r ≡ grown v b) where
-  pub grown-is : (m : ℕ) → r ≡ value.Is m → (m ≡ v * 10 + (b - 48)) × (m < 256 ^ 8)
+module _ (v b : ℕ) (r : Option ℕ) (e : r ≡ grown v b) where
+  pub grown-is : (m : ℕ) → r ≡ Some m → (m ≡ v * 10 + (b - 48)) × (m < 256 ^ 8)
   unfolding grown
-  grown-is m q = go (ltb (v * 10 + (b - 48)) (256 ^ 8)) refl (sym q ∙ e)
-    where
-      go : (t : Bool) → ltb (v * 10 + (b - 48)) (256 ^ 8) ≡ t → value.Is m ≡ pick t (value.Is (v * 10 + (b - 48))) value.Not
-          → (m ≡ v * 10 + (b - 48)) × (m < 256 ^ 8)
-      go true h p =
-          let s : m ≡ v * 10 + (b - 48) = cc in
-          (s, omega (arith, ltb-true (v * 10 + (b - 48)) (256 ^ 8) h))
-      go false h p = let z : ◌≡◌ {A = ℕ} 0 1 = cc in absurd (omega arith)
+  grown-is m q =
+      let next : ℕ = v * 10 + (b - 48) in
+      let p : (ltb next (256 ^ 8) ≡ true) × (m ≡ next) = picked _ _ _ (sym q ∙ e) in
+      (p.1, omega (arith, p.1, ltb-true next (256 ^ 8) p.0))
 
-  pub grown-not : r ≡ value.Not → 256 ^ 8 ≤ v * 10 + (b - 48)
+  pub grown-not : r ≡ None → 256 ^ 8 ≤ v * 10 + (b - 48)
   unfolding grown
-  grown-not q = go (ltb (v * 10 + (b - 48)) (256 ^ 8)) refl (sym q ∙ e)
-    where
-      go : (t : Bool) → ltb (v * 10 + (b - 48)) (256 ^ 8) ≡ t → value.Not ≡ pick t (value.Is (v * 10 + (b - 48))) value.Not → 256 ^ 8 ≤ v * 10 + (b - 48)
-      go true h p = let z : ◌≡◌ {A = ℕ} 0 1 = cc in absurd (omega arith)
-      go false h p = ltb-false (v * 10 + (b - 48)) (256 ^ 8) h
+  grown-not q = ltb-false (v * 10 + (b - 48)) (256 ^ 8) (not-picked _ _ (sym q ∙ e))
 
-pub digits-next : (l : Bytes) (v i b : ℕ) (r : Value) → front is_digit (drop i l) ≡ b ∷ front is_digit (drop (i + 1) l)
+pub digits-next : (l : Bytes) (v i b : ℕ) (r : Option ℕ) → front is_digit (drop i l) ≡ b ∷ front is_digit (drop (i + 1) l)
     → value_from v (front is_digit (drop i l)) ≡ value_from 0 (front is_digit l) → i + length (front is_digit (drop i l)) ≡ length (front is_digit l) → r ≡ grown v b
-    → (m : ℕ) → r ≡ value.Is m
+    → (m : ℕ) → r ≡ Some m
     → (value_from m (front is_digit (drop (i + 1) l)) ≡ value_from 0 (front is_digit l))
     × (i + 1 + length (front is_digit (drop (i + 1) l)) ≡ length (front is_digit l))
     × (m < 256 ^ 8)
@@ -156,93 +154,55 @@ digits-next l v i b r e h k g m q =
       grew.1,
     )
 
-pub digits-over : (l : Bytes) (v i b : ℕ) (r : Value) → front is_digit (drop i l) ≡ b ∷ front is_digit (drop (i + 1) l)
-    → value_from v (front is_digit (drop i l)) ≡ value_from 0 (front is_digit l) → r ≡ grown v b → r ≡ value.Not → numeral.Not ≡ digits_at l
+pub digits-over : (l : Bytes) (v i b : ℕ) (r : Option ℕ) → front is_digit (drop i l) ≡ b ∷ front is_digit (drop (i + 1) l)
+    → value_from v (front is_digit (drop i l)) ≡ value_from 0 (front is_digit l) → r ≡ grown v b → r ≡ None → None ≡ digits_at l
 digits-over l v i b r e h g q =
     value-over (front is_digit l) (front is_digit (drop (i + 1) l)) (v * 10 + (b - 48)) (grown-not v b r g q) (value-next l v i _ b e h)
 
 pub digits-all : (l : Bytes) (v i : ℕ) → front is_digit (drop i l) ≡ [] → value_from v (front is_digit (drop i l)) ≡ value_from 0 (front is_digit l)
-    → i + length (front is_digit (drop i l)) ≡ length (front is_digit l) → v < 256 ^ 8 → numeral.Is v i ≡ digits_at l
+    → i + length (front is_digit (drop i l)) ≡ length (front is_digit l) → v < 256 ^ 8 → Some (record { value = v; len = i }) ≡ digits_at l
 unfolding value_from
 digits-all l v i e h g s = value-all (front is_digit l) v i s (ap (value_from v) (sym e) ∙ h) (omega (arith, ap length e))
 
 -- what was read by its digits, as it is printed
-module _ (l : Bytes) (r : Numeral) (v n : ℕ) (e : r ≡ digits_at l) (q : r ≡ numeral.Is v n) where
-  numeral-is : (v ≡ value_from 0 (front is_digit l)) × (n ≡ length (front is_digit l)) × (ltb (value_from 0 (front is_digit l)) (256 ^ 8) ≡ true)
-  unfolding numeral_of
-  numeral-is = go (ltb (value_from 0 (front is_digit l)) (256 ^ 8)) refl (sym q ∙ e)
-    where
-      go : (t : Bool) → ltb (value_from 0 (front is_digit l)) (256 ^ 8) ≡ t
-          → numeral.Is v n ≡ pick t (numeral.Is (value_from 0 (front is_digit l)) (length (front is_digit l))) numeral.Not
-          → (v ≡ value_from 0 (front is_digit l)) × (n ≡ length (front is_digit l)) × (ltb (value_from 0 (front is_digit l)) (256 ^ 8) ≡ true)
-      go true h p = (cc, cc, h)
-      go false h p = let z : ◌≡◌ {A = ℕ} 0 1 = cc in absurd (omega arith)
+module _ (l : Bytes) (r : Option Numeral) (e : r ≡ digits_at l) where
+  pub number-not : r ≡ None → None ≡ number_at l
+  unfolding numeral_of number_at
+  number-not q = rw (not-picked _ _ (sym q ∙ e))
 
-  pub numeral-within : n ≤ length l
-  numeral-within = omega (arith, numeral-is.1, front_long is_digit l)
+  module _ (x : Numeral) (q : r ≡ Some x) where
+    numeral-is : (ltb (value_from 0 (front is_digit l)) (256 ^ 8) ≡ true)
+        × (x ≡ record { value = value_from 0 (front is_digit l); len = length (front is_digit l) })
+    unfolding numeral_of
+    numeral-is = picked _ _ _ (sym q ∙ e)
 
-  same-piece : (s : Bool) → s ≡ same_bytes (decimal v) (take n l) → s ≡ same_bytes (decimal (value_from 0 (front is_digit l))) (front is_digit l)
-  same-piece s g =
-      g
-      ∙ ap (λ (x : ℕ). same_bytes (decimal x) (take n l)) numeral-is.0
-      ∙ ap (same_bytes (decimal (value_from 0 (front is_digit l)))) (ap (λ (k : ℕ). take k l) numeral-is.1 ∙ front-take is_digit l)
+    pub numeral-within : x.len ≤ length l
+    numeral-within = omega (arith, ap (λ (y : Numeral). y.len) numeral-is.1, front_long is_digit l)
 
-  pub number_same : (s : Bool) → s ≡ same_bytes (decimal v) (take n l) → s ≡ true → numeral.Is v n ≡ number_at l
-  unfolding number_at
-  number_same s g h = rw (numeral-is.2, sym (same-piece s g), h, numeral-is.0, numeral-is.1)
+    same-piece : (s : Bool) → s ≡ same_bytes (decimal x.value) (take x.len l) → s ≡ same_bytes (decimal (value_from 0 (front is_digit l))) (front is_digit l)
+    same-piece s g =
+        g
+        ∙ ap (λ (y : Numeral). same_bytes (decimal y.value) (take y.len l)) numeral-is.1
+        ∙ ap (same_bytes (decimal (value_from 0 (front is_digit l)))) (front-take is_digit l)
 
-  pub number-other : (s : Bool) → s ≡ same_bytes (decimal v) (take n l) → s ≡ false → numeral.Not ≡ number_at l
-  unfolding number_at
-  number-other s g h = rw (numeral-is.2, sym (same-piece s g), h)
-
-pub number-not : (l : Bytes) (r : Numeral) → r ≡ digits_at l → r ≡ numeral.Not → numeral.Not ≡ number_at l
-unfolding numeral_of number_at
-number-not l r e q = go (ltb (value_from 0 (front is_digit l)) (256 ^ 8)) refl (sym q ∙ e)
-  where
-    piece : Bytes
-    piece = front is_digit l
-
-    go : (t : Bool) → ltb (value_from 0 piece) (256 ^ 8) ≡ t → numeral.Not ≡ pick t (numeral.Is (value_from 0 piece) (length piece)) numeral.Not
-        → numeral.Not ≡ pick (ltb (value_from 0 piece) (256 ^ 8) && same_bytes (decimal (value_from 0 piece)) piece) (numeral.Is (value_from 0 piece) (length piece)) numeral.Not
-    go true h p = let z : ◌≡◌ {A = ℕ} 0 1 = cc in absurd (omega arith)
-    go false h p = rw h
+    pub number-is : (s : Bool) → s ≡ same_bytes (decimal x.value) (take x.len l) → then_some s x ≡ number_at l
+    unfolding number_at
+    number-is s g =
+        then-picked s x ∙ ap (λ (y : Numeral). pick s (Some y) None) numeral-is.1 ∙ rw (numeral-is.0, sym (same-piece s g))
 
 -- what the reader of listings does then
-module _ (l : Bytes) (next : ℕ → Bytes → LineRead) (r : Numeral) (e : r ≡ number_at l) where
-  pub number-printed : (v n : ℕ) → r ≡ numeral.Is v n → printed number_form next l ≡ next v (drop n l)
+module _ (l : Bytes) (next : ℕ → Bytes → LineRead) (r : Option Numeral) (e : r ≡ number_at l) where
+  pub number-printed : (x : Numeral) → r ≡ Some x → printed number_form next l ≡ next x.value (drop x.len l)
   unfolding number_at
-  number-printed v n q = go (ltb (value_from 0 piece) (256 ^ 8) && same_bytes (decimal (value_from 0 piece)) piece) (sym q ∙ e)
-    where
-      piece : Bytes
-      piece = front is_digit l
+  number-printed x q =
+      let p = picked _ _ _ (sym q ∙ e) in
+      rw p.0 (ap (λ (y : Numeral). next y.value (drop y.len l)) (sym p.1))
 
-      go : (t : Bool) → numeral.Is v n ≡ pick t (numeral.Is (value_from 0 piece) (length piece)) numeral.Not
-          → pick t (next (value_from 0 piece) (drop (length piece) l)) NoLine ≡ next v (drop n l)
-      go true p =
-          let a : v ≡ value_from 0 piece = cc in
-          let c : n ≡ length piece = cc in
-          rw (a, c)
-      go false p = let z : ◌≡◌ {A = ℕ} 0 1 = cc in absurd (omega arith)
-
-  pub number-none : r ≡ numeral.Not → printed number_form next l ≡ NoLine
+  pub number-none : r ≡ None → printed number_form next l ≡ NoLine
   unfolding number_at
-  number-none q = go (ltb (value_from 0 piece) (256 ^ 8) && same_bytes (decimal (value_from 0 piece)) piece) (sym q ∙ e)
-    where
-      piece : Bytes
-      piece = front is_digit l
-
-      go : (t : Bool) → numeral.Not ≡ pick t (numeral.Is (value_from 0 piece) (length piece)) numeral.Not
-          → pick t (next (value_from 0 piece) (drop (length piece) l)) NoLine ≡ NoLine
-      go true p = let z : ◌≡◌ {A = ℕ} 0 1 = cc in absurd (omega arith)
-      go false p = refl
+  number-none q = rw (not-picked _ _ (sym q ∙ e))
 
 -- ---- keys and values
-
-pub graphic-low : (b : ℕ) → b < 33 → is_graphic b ≡ false
-graphic-low b h = and_no (leb 33 b) (leb b 126) (lt-leb 33 b h)
-
-pub graphic-high : (b : ℕ) → 33 ≤ b → leb b 126 ≡ is_graphic b
-graphic-high b h = rw (le-leb 33 b h)
 
 -- what the byte at `i` stands for
 unshown-one : (a : ℕ) (l : Bytes) → (eqb a 37 ≡ true → length l < 2) → unshown (a ∷ l) ≡ a ∷ unshown l
@@ -307,17 +267,17 @@ one_more piece out n i v k e a u h g =
     )
 
 -- what is answered where the text does not fit
-unfit : (most : ℕ) (t : Bytes) (X : Type 0) → (text_fits most t ≡ true → ⊥) → (count.Not ≡ count_of most t) × (text_fits most t ≡ true → X)
+unfit : (most : ℕ) (t : Bytes) (X : Type 0) → (text_fits most t ≡ true → ⊥) → (None ≡ count_of most t) × (text_fits most t ≡ true → X)
 unfolding count_of
 unfit most t X h = (go (text_fits most t) refl, λ e. absurd (h e))
   where
-    go : (b : Bool) → text_fits most t ≡ b → count.Not ≡ pick b (count.Is (length t)) count.Not
+    go : (b : Bool) → text_fits most t ≡ b → None ≡ pick b (Some (length t)) None
     go true e = absurd (h e)
     go false e = refl
 
 module _ (piece out left : Bytes) (v k : ℕ) where
   pub not-bytes : (n i : ℕ) → take n out ++ unshown (drop i piece) ≡ unshown piece → unshown (drop i piece) ≡ v ∷ unshown (drop (i + k) piece) → 256 ≤ v
-      → (count.Not ≡ count_of (length left) (unshown piece))
+      → (None ≡ count_of (length left) (unshown piece))
       × (text_fits (length left) (unshown piece) ≡ true → take (length (unshown piece)) out ≡ unshown piece)
   not-bytes n i e u h =
       unfit (length left) (unshown piece) _
@@ -330,7 +290,7 @@ module _ (piece out left : Bytes) (v k : ℕ) where
 
   pub no_room : (n i : ℕ) → length out ≡ length left → n ≤ length out → take n out ++ unshown (drop i piece) ≡ unshown piece
       → unshown (drop i piece) ≡ v ∷ unshown (drop (i + k) piece) → length out ≤ n
-      → (count.Not ≡ count_of (length left) (unshown piece))
+      → (None ≡ count_of (length left) (unshown piece))
       × (text_fits (length left) (unshown piece) ≡ true → take (length (unshown piece)) out ≡ unshown piece)
   no_room n i s m e u h =
       unfit (length left) (unshown piece) _
@@ -342,7 +302,7 @@ module _ (piece out left : Bytes) (v k : ℕ) where
 
 pub all_shown : (piece out left : Bytes) (n i : ℕ) → length out ≡ length left → n ≤ length out → take n out ++ unshown (drop i piece) ≡ unshown piece
     → all is_byte (take n out) ≡ true → length piece ≤ i
-    → (count.Is n ≡ count_of (length left) (unshown piece))
+    → (Some n ≡ count_of (length left) (unshown piece))
     × (text_fits (length left) (unshown piece) ≡ true → take (length (unshown piece)) out ≡ unshown piece)
 unfolding count_of unshown
 all_shown piece out left n i s m e a h =
@@ -354,84 +314,59 @@ all_shown piece out left n i s m e a h =
     (rw (fits, long), λ f. ap (λ (k : ℕ). take k out) long ∙ whole)
 
 -- the text at the front
-module _ (most : ℕ) (l out : Bytes) (r : Count) (e : r ≡ count_of most (unshown (piece_of l)))
-    (w : text_fits most (unshown (piece_of l)) ≡ true → take (length (unshown (piece_of l))) out ≡ unshown (piece_of l)) where
-  abbrev Kept : Type 0
-  Kept = text_fits most (unshown (piece_of l)) ≡ true → take (length (unshown (piece_of l))) out ≡ unshown (piece_of l)
+module _ (l out left : Bytes) (took : ℕ) (k : took ≡ length (piece_of l)) (r : Option ℕ) (u : Unshows (take took l) out r left) where
+  piece_is : take took l ≡ piece_of l
+  piece_is = ap (λ (j : ℕ). take j l) k ∙ front-take is_graphic l
 
-  pub text-not : r ≡ count.Not → (shown.Not ≡ text_at most l) × Kept
+  told : Unshows (piece_of l) out r left
+  told = subst (λ (p : Bytes). Unshows p out r left) piece_is u
+
+  pub text-not : r ≡ None → TextRead l out None left
   unfolding count_of text_at
-  text-not q = (go (text_fits most (unshown (piece_of l))) refl (sym q ∙ e), w)
-    where
-      t : Bytes
-      t = unshown (piece_of l)
+  text-not q = (rw (not-picked _ _ (sym q ∙ told.0)), told.1)
 
-      go : (b : Bool) → text_fits most t ≡ b → count.Not ≡ pick b (count.Is (length t)) count.Not
-          → shown.Not ≡ pick (text_fits most t && same_bytes (shown_bytes t) (piece_of l)) (shown.Is (length t) (length (piece_of l))) shown.Not
-      go true h p = let z : ◌≡◌ {A = ℕ} 0 1 = cc in absurd (omega arith)
-      go false h p = rw h
-
-  module _ (n : ℕ) (q : r ≡ count.Is n) where
-    count-is : (n ≡ length (unshown (piece_of l))) × (text_fits most (unshown (piece_of l)) ≡ true)
+  module _ (n : ℕ) (q : r ≡ Some n) where
+    count-is : (text_fits (length out) (unshown (piece_of l)) ≡ true) × (n ≡ length (unshown (piece_of l)))
     unfolding count_of
-    count-is = go (text_fits most (unshown (piece_of l))) refl (sym q ∙ e)
-      where
-        go : (b : Bool) → text_fits most (unshown (piece_of l)) ≡ b → count.Is n ≡ pick b (count.Is (length (unshown (piece_of l)))) count.Not
-            → (n ≡ length (unshown (piece_of l))) × (text_fits most (unshown (piece_of l)) ≡ true)
-        go true h p = (cc, h)
-        go false h p = let z : ◌≡◌ {A = ℕ} 0 1 = cc in absurd (omega arith)
+    count-is = picked _ _ _ (sym q ∙ told.0)
 
-    pub count-within : n ≤ most
+    count-within : n ≤ length out
     count-within =
-        omega (arith, count-is.0, leb-true (length (unshown (piece_of l))) most (and_left (leb (length (unshown (piece_of l))) most) _ count-is.1))
+        let t : Bytes = unshown (piece_of l) in
+        omega (arith, count-is.1, leb-true (length t) (length out) (and_left (leb (length t) (length out)) _ count-is.0))
 
-    pub stored_is : take n out ≡ unshown (piece_of l)
-    stored_is = ap (λ (k : ℕ). take k out) count-is.0 ∙ w count-is.1
+    pub count-held : length left ≡ length out → n ≤ length left
+    count-held s = omega (arith, count-within)
 
-    same-shown : (took : ℕ) (s : Bool) → took ≡ length (piece_of l) → s ≡ same_bytes (shown_bytes (take n out)) (take took l)
+    pub count-short : length left ≡ length out → length out ≤ 64 → length (take n left) ≤ 64
+    count-short s h = omega (arith, count-within, length-take-le n left (count-held s))
+
+    same-shown : (s : Bool) → s ≡ same_bytes (shown_bytes (take n left)) (take took l)
         → s ≡ same_bytes (shown_bytes (unshown (piece_of l))) (piece_of l)
-    same-shown took s k g =
+    same-shown s g =
         g
-        ∙ ap (λ (x : Bytes). same_bytes (shown_bytes x) (take took l)) stored_is
-        ∙ ap (same_bytes (shown_bytes (unshown (piece_of l)))) (ap (λ (j : ℕ). take j l) k ∙ front-take is_graphic l)
+        ∙ ap (λ (x : Bytes). same_bytes (shown_bytes x) (take took l)) (ap (λ (j : ℕ). take j left) count-is.1 ∙ told.1 count-is.0)
+        ∙ ap (same_bytes (shown_bytes (unshown (piece_of l)))) piece_is
 
-    pub text_same : (took : ℕ) (s : Bool) → took ≡ length (piece_of l) → s ≡ same_bytes (shown_bytes (take n out)) (take took l) → s ≡ true
-        → (shown.Is n took ≡ text_at most l) × Kept
+    pub text-is : (s : Bool) → s ≡ same_bytes (shown_bytes (take n left)) (take took l)
+        → TextRead l out (then_some s (record { len = n; took = took })) left
     unfolding text_at
-    text_same took s k g h = (rw (count-is.1, sym (same-shown took s k g), h, count-is.0, k), w)
-
-    pub text-other : (took : ℕ) (s : Bool) → took ≡ length (piece_of l) → s ≡ same_bytes (shown_bytes (take n out)) (take took l) → s ≡ false
-        → (shown.Not ≡ text_at most l) × Kept
-    unfolding text_at
-    text-other took s k g h = (rw (count-is.1, sym (same-shown took s k g), h), w)
+    text-is s g = (then-picked s _ ∙ rw (count-is.0, sym (same-shown s g), count-is.1, k), told.1)
 
 -- what the reader of listings does then
-module _ (most : ℕ) (l out : Bytes) (next : Bytes → Bytes → LineRead) (r : Shown) (e : r ≡ text_at most l)
-    (w : text_fits most (unshown (piece_of l)) ≡ true → take (length (unshown (piece_of l))) out ≡ unshown (piece_of l)) where
-  pub text-printed : (n k : ℕ) → r ≡ shown.Is n k → (printed (text_form most) next l ≡ next (take n out) (drop k l)) × (n ≤ most)
+module _ (most : ℕ) (l out : Bytes) (next : Bytes → Bytes → LineRead) (r : Option Shown) (e : r ≡ text_at most l)
+    (w : Stored most (unshown (piece_of l)) out) where
+  pub text-printed : (x : Shown) → r ≡ Some x → (printed (text_form most) next l ≡ next (take x.len out) (drop x.took l)) × (x.len ≤ most)
   unfolding text_at
-  text-printed n k q = go (text_fits most t) refl (same_bytes (shown_bytes t) (piece_of l)) (sym q ∙ e)
-    where
-      t : Bytes
-      t = unshown (piece_of l)
+  text-printed x q =
+      let t : Bytes = unshown (piece_of l) in
+      let p = picked _ _ _ (sym q ∙ e) in
+      let fits : text_fits most t ≡ true = and_left (text_fits most t) _ p.0 in
+      let len : x.len ≡ length t = ap (λ (y : Shown). y.len) p.1 in
+      let stored : take x.len out ≡ t = ap (λ (j : ℕ). take j out) len ∙ w fits in
+      let took : x.took ≡ length (piece_of l) = ap (λ (y : Shown). y.took) p.1 in
+      (rw (p.0, stored, took), omega (arith, len, leb-true (length t) most (and_left (leb (length t) most) _ fits)))
 
-      go : (a : Bool) → text_fits most t ≡ a → (b : Bool) → shown.Is n k ≡ pick (a && b) (shown.Is (length t) (length (piece_of l))) shown.Not
-          → (pick (a && b) (next t (drop (length (piece_of l)) l)) NoLine ≡ next (take n out) (drop k l)) × (n ≤ most)
-      go true h true p =
-          let x : n ≡ length t = cc in
-          let y : k ≡ length (piece_of l) = cc in
-          let stored : take n out ≡ t = ap (λ (j : ℕ). take j out) x ∙ w h in
-          (rw (stored, y), omega (arith, leb-true (length t) most (and_left (leb (length t) most) _ h)))
-      go true h false p = let z : ◌≡◌ {A = ℕ} 0 1 = cc in absurd (omega arith)
-      go false h b p = let z : ◌≡◌ {A = ℕ} 0 1 = cc in absurd (omega arith)
-
-  pub text-none : r ≡ shown.Not → printed (text_form most) next l ≡ NoLine
+  pub text-none : r ≡ None → printed (text_form most) next l ≡ NoLine
   unfolding text_at
-  text-none q = go (text_fits most t && same_bytes (shown_bytes t) (piece_of l)) (sym q ∙ e)
-    where
-      t : Bytes
-      t = unshown (piece_of l)
-
-      go : (b : Bool) → shown.Not ≡ pick b (shown.Is (length t) (length (piece_of l))) shown.Not → pick b (next t (drop (length (piece_of l)) l)) NoLine ≡ NoLine
-      go true p = let z : ◌≡◌ {A = ℕ} 0 1 = cc in absurd (omega arith)
-      go false p = refl
+  text-none q = rw (not-picked _ _ (sym q ∙ e))

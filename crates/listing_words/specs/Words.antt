@@ -6,32 +6,27 @@ use Rattle.fields.specs.Numbers.{Bytes}
 use Rattle.fields.specs.Order.{same_bytes}
 use Rattle.rules.specs.Listing.{decimal, shown_bytes}
 use Rattle.listing_read.specs.Unlist.{front, is_digit, is_graphic, text_form, unshown, value_from}
+use Rattle.std.specs.Prelude.{None, Option, Some}
 use Rattle.listing_words.specs.declared.Numeral.{Numeral}
-use Rattle.listing_words.specs.declared.Numeral.TheVariants as numeral
 use Rattle.listing_words.specs.declared.Shown.{Shown}
-use Rattle.listing_words.specs.declared.Shown.TheVariants as shown
-use Rattle.listing_words.specs.declared.Value.{Value}
-use Rattle.listing_words.specs.declared.Value.TheVariants as value
 use Rattle.listing_words.specs.declared.One.{One}
-use Rattle.listing_words.specs.declared.Count.{Count}
-use Rattle.listing_words.specs.declared.Count.TheVariants as count
 
 -- the value with one digit more, where it is below 2^64
-unfoldable pub grown : (begun digit : ℕ) → Value
-grown v b = pick (ltb (v * 10 + (b - 48)) (256 ^ 8)) (value.Is (v * 10 + (b - 48))) value.Not
+unfoldable pub grown : (begun digit : ℕ) → (Option ℕ)
+grown v b = pick (ltb (v * 10 + (b - 48)) (256 ^ 8)) (Some (v * 10 + (b - 48))) None
 
 -- the number that digits are, where it is below 2^64
-unfoldable pub numeral_of : (digits : Bytes) → Numeral
-numeral_of l = pick (ltb (value_from 0 l) (256 ^ 8)) (numeral.Is (value_from 0 l) (length l)) numeral.Not
+unfoldable pub numeral_of : (digits : Bytes) → (Option Numeral)
+numeral_of l = pick (ltb (value_from 0 l) (256 ^ 8)) (Some (record { value = (value_from 0 l); len = (length l) })) None
 
-abbrev pub digits_at : (text : Bytes) → Numeral
+abbrev pub digits_at : (text : Bytes) → (Option Numeral)
 digits_at l = numeral_of (front is_digit l)
 
 -- the number at the front, as it is printed
-unfoldable pub number_at : (text : Bytes) → Numeral
+unfoldable pub number_at : (text : Bytes) → (Option Numeral)
 number_at l =
     let piece : Bytes = front is_digit l in
-    pick (ltb (value_from 0 piece) (256 ^ 8) && same_bytes (decimal (value_from 0 piece)) piece) (numeral.Is (value_from 0 piece) (length piece)) numeral.Not
+    pick (ltb (value_from 0 piece) (256 ^ 8) && same_bytes (decimal (value_from 0 piece)) piece) (Some (record { value = (value_from 0 piece); len = (length piece) })) None
 
 -- the bytes at the front that can belong to a text as it is shown
 abbrev pub piece_of : (text : Bytes) → Bytes
@@ -42,14 +37,14 @@ abbrev pub text_fits : (most : ℕ) (text : Bytes) → Bool
 text_fits most t = (text_form most).fits t
 
 -- how many bytes a text has, where it fits
-unfoldable pub count_of : (most : ℕ) (text : Bytes) → Count
-count_of most t = pick (text_fits most t) (count.Is (length t)) count.Not
+unfoldable pub count_of : (most : ℕ) (text : Bytes) → (Option ℕ)
+count_of most t = pick (text_fits most t) (Some (length t)) None
 
 -- the key or value at the front, as it is shown
-unfoldable pub text_at : (most : ℕ) (text : Bytes) → Shown
+unfoldable pub text_at : (most : ℕ) (text : Bytes) → (Option Shown)
 text_at most l =
     let piece : Bytes = piece_of l in
-    pick (text_fits most (unshown piece) && same_bytes (shown_bytes (unshown piece)) piece) (shown.Is (length (unshown piece)) (length piece)) shown.Not
+    pick (text_fits most (unshown piece) && same_bytes (shown_bytes (unshown piece)) piece) (Some (record { len = (length (unshown piece)); took = (length piece) })) None
 
 -- ---- what is promised of the lent bytes
 
@@ -62,9 +57,9 @@ abbrev pub OneAt : (piece : Bytes) (i : ℕ) (one : One) → Type 0
 OneAt l i one = (unshown (drop i l) ≡ one.value ∷ unshown (drop (i + one.took) l)) × (1 ≤ one.took) × (i + one.took ≤ length l)
 
 -- the bytes that a shown text stands for were stored
-abbrev pub Unshows : (piece out : Bytes) (answer : Count) (left : Bytes) → Type 0
+abbrev pub Unshows : (piece out : Bytes) (answer : (Option ℕ)) (left : Bytes) → Type 0
 Unshows l out r left = (r ≡ count_of (length out) (unshown l)) × Stored (length out) (unshown l) left
 
 -- the key or value at the front was stored
-abbrev pub TextRead : (text out : Bytes) (answer : Shown) (left : Bytes) → Type 0
+abbrev pub TextRead : (text out : Bytes) (answer : (Option Shown)) (left : Bytes) → Type 0
 TextRead l out r left = (r ≡ text_at (length out) l) × Stored (length out) (unshown (piece_of l)) left

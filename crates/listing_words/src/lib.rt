@@ -9,41 +9,24 @@ ghost use Rattle.rules.specs.Sizes.{max_value};
 ghost use Rattle.listing_read.specs.Unlist.{hex_value, is_digit, is_graphic};
 ghost use Rattle.listing_words.specs.Words.{OneAt, TextRead, Unshows, digits_at, grown, number_at, piece_of};
 
-// The largest number.
-const MOST: u64 = 18446744073709551615;
-
-// The largest that may have a digit more.
+// The largest number that may have a digit more.
 const TENTH: u64 = 1844674407370955161;
 
 // The most bytes of a key or a value as it is shown.
 const LONGEST: usize = 3 * rules::Record::VALUE;
 
-// A number, and how many digits it took.
+// A number, and how many bytes it is written in.
 #[derive(Clone, Copy)]
-pub enum Numeral {
-    Is { value: u64, len: usize },
-    Not,
+pub struct Numeral {
+    pub value: u64,
+    pub len: usize,
 }
 
-// A key's or a value's length, and how many bytes it took as it is shown.
+// Bytes that a shown text stands for: so many, and how many bytes of the line were taken.
 #[derive(Clone, Copy)]
-pub enum Shown {
-    Is { len: usize, took: usize },
-    Not,
-}
-
-// A number below 2^64.
-#[derive(Clone, Copy)]
-pub enum Value {
-    Is(u64),
-    Not,
-}
-
-// How many bytes were stored.
-#[derive(Clone, Copy)]
-pub enum Count {
-    Is(usize),
-    Not,
+pub struct Shown {
+    pub len: usize,
+    pub took: usize,
 }
 
 // What the next byte of a shown text stands for, and how many bytes it took.
@@ -92,37 +75,32 @@ fn tenfold(value: u64) -> u64
 }
 
 // The value with one digit more.
-fn with_digit(value: u64, digit: u8) -> Value
+fn with_digit(value: u64, digit: u8) -> Option<u64>
     requires { is_digit digit ≡ true }
     ensures { result ≡ grown value digit }
 {
-    let low = (digit - 48) as u64;
+    let low = u64::from(digit - 48);
     if TENTH < value {
-        return Value::Not;
+        return None;
     }
-    let high = tenfold(value);
-    if MOST - high < low {
-        return Value::Not;
-    }
-    Value::Is(high + low)
+    tenfold(value).checked_add(low)
 }
 
 // The number that the digits at the front are, leading zeros or not.
-fn read_digits(text: &[u8]) -> Numeral
+fn read_digits(text: &[u8]) -> Option<Numeral>
     ensures { result ≡ digits_at text.now }
 {
     let mut value: u64 = 0;
-    let mut i: usize = 0;
-    while i < text.len() && is_digit(text[i]) {
-        match with_digit(value, text[i]) {
-            Value::Is(more) => {
-                value = more;
-            }
-            Value::Not => return Numeral::Not,
+    for (i, b) in text.iter().enumerate() {
+        if !is_digit(*b) {
+            return Some(Numeral { value, len: i });
         }
-        i += 1;
+        value = with_digit(value, *b)?;
     }
-    Numeral::Is { value, len: i }
+    Some(Numeral {
+        value,
+        len: text.len(),
+    })
 }
 
 // Whether the bytes are those that are printed of the value.
@@ -135,19 +113,11 @@ fn is_decimal(value: u64, piece: &[u8]) -> bool
 }
 
 // The number at the front, as it is printed.
-pub fn number(text: &[u8]) -> Numeral
+pub fn number(text: &[u8]) -> Option<Numeral>
     ensures { result ≡ number_at text.now }
 {
-    let read = read_digits(text);
-    match read {
-        Numeral::Not => Numeral::Not,
-        Numeral::Is { value, len } => {
-            if is_decimal(value, &text[..len]) {
-                return Numeral::Is { value, len };
-            }
-            Numeral::Not
-        }
-    }
+    let read = read_digits(text)?;
+    is_decimal(read.value, &text[..read.len]).then_some(read)
 }
 
 // ---- keys and values
@@ -166,11 +136,12 @@ fn is_graphic(b: u8) -> bool
 fn graphic_len(text: &[u8]) -> usize
     ensures { (result ≡ length (piece_of text.now)) × (result ≤ length text.now) }
 {
-    let mut i: usize = 0;
-    while i < text.len() && is_graphic(text[i]) {
-        i += 1;
+    for (i, b) in text.iter().enumerate() {
+        if !is_graphic(*b) {
+            return i;
+        }
     }
-    i
+    text.len()
 }
 
 // The value of a hexadecimal digit; of another byte some number.
@@ -217,24 +188,25 @@ fn one_at(piece: &[u8], i: usize) -> One
 }
 
 // The bytes that a shown text stands for, at the front of `out`, if they are bytes and have room there.
-fn unshow(piece: &[u8], out: &mut [u8]) -> Count
+fn unshow(piece: &[u8], out: &mut [u8]) -> Option<usize>
     ensures { Unshows piece.now out.old result out.new }
 {
     let mut n: usize = 0;
     let mut i: usize = 0;
+    // No `for`: a step is as long as what the byte took, one or three.
     while i < piece.len() {
         let one = one_at(piece, i);
         if 256 <= one.value {
-            return Count::Not;
+            return None;
         }
         if out.len() <= n {
-            return Count::Not;
+            return None;
         }
         out[n] = one.value as u8;
         n += 1;
         i += one.took;
     }
-    Count::Is(n)
+    Some(n)
 }
 
 // Whether the bytes are those that are shown of the text.
@@ -248,20 +220,12 @@ fn is_shown(text: &[u8], piece: &[u8]) -> bool
 }
 
 // The key or value at the front, as it is shown; its bytes at the front of `out`, whose length is the most that it may have.
-pub fn text(text: &[u8], out: &mut [u8]) -> Shown
+pub fn text(text: &[u8], out: &mut [u8]) -> Option<Shown>
     requires { length out.old ≤ max_value }
     ensures { TextRead text.now out.old result out.new }
 {
     let took = graphic_len(text);
     let piece = &text[..took];
-    let count = unshow(piece, out);
-    match count {
-        Count::Not => Shown::Not,
-        Count::Is(len) => {
-            if is_shown(&out[..len], piece) {
-                return Shown::Is { len, took };
-            }
-            Shown::Not
-        }
-    }
+    let len = unshow(piece, out)?;
+    is_shown(&out[..len], piece).then_some(Shown { len, took })
 }

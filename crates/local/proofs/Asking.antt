@@ -17,15 +17,13 @@ use Rattle.rules.specs.declared.Party.{Party}
 use Rattle.rules.specs.declared.Profile.{Profile}
 use Rattle.rules.specs.declared.Status.{Status}
 use Rattle.rules.specs.declared.Status.TheVariants.{Set, Delete, Ttl}
-use Rattle.rules.specs.declared.Answer.{Answer}
-use Rattle.rules.specs.declared.Answer.TheVariants.{Refused}
+use Rattle.std.specs.Prelude.{Err, None, Option, Result, Some}
+use Rattle.rules.specs.declared.Refusal.{Refusal}
 use Rattle.rules.specs.declared.Refusal.TheVariants.{BadTag, BadTable}
 use Rattle.rules.proofs.Writing.{lent-set, lent-ttl, other-as}
 use Rattle.local.proofs.Called.{whole-stays}
 use Rattle.local_node.specs.Writes.{call_of}
 use Rattle.local_node.specs.declared.Kind.{Kind}
-use Rattle.local.specs.declared.Asked.{Asked}
-use Rattle.local.specs.declared.Asked.TheVariants as asked
 use Rattle.local.specs.Wanted.{asked_by, wanted_of}
 
 -- ---- a number
@@ -45,7 +43,7 @@ wanted-none n a b = go (eqb n 0) refl (eqb n 2) refl
     go false p false q = refl
 
 module _ (q : Party) (v : List ℕ) (now i : ℕ) (k : List ℕ) where
-  delete-other : (p : Profile) (t : Table) → write_as p q (status_byte Delete) v now i k t ≡ gives (Refused BadTag) t
+  delete-other : (p : Profile) (t : Table) → write_as p q (status_byte Delete) v now i k t ≡ gives (Err BadTag) t
   delete-other p t = other-as v now i k p q (status_byte Delete) t (λ e. omega arith) (λ e. omega arith)
 
   number-write : (p : Profile) (n : ℕ) (t : Table) → write_as p q (status_byte (wanted_of n)) v now i k t ≡ write_as p q n v now i k t
@@ -59,24 +57,24 @@ module _ (q : Party) (v : List ℕ) (now i : ℕ) (k : List ℕ) where
   -- so the write of a number's status is the write of the number, whatever the number
   module _ (n : ℕ) (s : Status) (e : s ≡ wanted_of n) (l : List ℕ) where
     pub number-lent : lent_write q (status_byte s) v now i k l ≡ lent_write q n v now i k l
-    number-lent = ap (λ (x : Status). lent_write q (status_byte x) v now i k l) e ∙ (λ j. on_table (Refused BadTable) (λ t. number-write (decode_whole l).kind.profile n t j) l)
+    number-lent = ap (λ (x : Status). lent_write q (status_byte x) v now i k l) e ∙ (λ j. on_table (Err BadTable) (λ t. number-write (decode_whole l).kind.profile n t j) l)
 
   -- ---- a status
 
-  abbrev answered_by : Asked → List ℕ → Given Answer (List ℕ)
-  answered_by (asked.Call kind) l = lent_call q (call_of kind v now) i k l
-  answered_by asked.Nothing l = on_table (Refused BadTable) (λ t. gives (Refused BadTag) t) l
+  abbrev answered_by : (Option Kind) → List ℕ → Given (Result (Unit {0}) Refusal) (List ℕ)
+  answered_by (Some kind) l = lent_call q (call_of kind v now) i k l
+  answered_by None l = on_table (Err BadTable) (λ t. gives (Err BadTag) t) l
 
   status-write : (s : Status) (l : List ℕ) → lent_write q (status_byte s) v now i k l ≡ answered_by (asked_by s) l
   status-write Set l = lent-set v now i k q l
-  status-write Delete l = λ j. on_table (Refused BadTable) (λ t. delete-other (decode_whole l).kind.profile t j) l
+  status-write Delete l = λ j. on_table (Err BadTable) (λ t. delete-other (decode_whole l).kind.profile t j) l
   status-write Ttl l = lent-ttl v now i k q l
 
   module _ (s : Status) (l : List ℕ) where
-    pub call-gives : (kind : Kind) → asked_by s ≡ asked.Call kind → (r : Answer) (m : List ℕ) → Gives (lent_call q (call_of kind v now) i k l) r m → Gives (lent_write q (status_byte s) v now i k l) r m
-    call-gives kind e r m = subst (λ (o : Given Answer (List ℕ)). Gives o r m) (sym (status-write s l ∙ ap (λ (a : Asked). answered_by a l) e))
+    pub call-gives : (kind : Kind) → asked_by s ≡ Some kind → (r : (Result (Unit {0}) Refusal)) (m : List ℕ) → Gives (lent_call q (call_of kind v now) i k l) r m → Gives (lent_write q (status_byte s) v now i k l) r m
+    call-gives kind e r m = subst (λ (o : Given (Result (Unit {0}) Refusal) (List ℕ)). Gives o r m) (sym (status-write s l ∙ ap (λ (a : (Option Kind)). answered_by a l) e))
 
-    pub none-gives : valid_whole l ≡ true → asked_by s ≡ asked.Nothing → Gives (lent_write q (status_byte s) v now i k l) (Refused BadTag) l
+    pub none-gives : valid_whole l ≡ true → asked_by s ≡ None → Gives (lent_write q (status_byte s) v now i k l) (Err BadTag) l
     none-gives g e =
-        subst (λ (o : Given Answer (List ℕ)). Gives o (Refused BadTag) l) (sym (status-write s l ∙ ap (λ (a : Asked). answered_by a l) e))
-        (whole-stays (Refused BadTable) (λ t. gives (Refused BadTag) t) l g (Refused BadTag) refl)
+        subst (λ (o : Given (Result (Unit {0}) Refusal) (List ℕ)). Gives o (Err BadTag) l) (sym (status-write s l ∙ ap (λ (a : (Option Kind)). answered_by a l) e))
+        (whole-stays (Err BadTable) (λ t. gives (Err BadTag) t) l g (Err BadTag) refl)

@@ -7,14 +7,14 @@ use Rattle.rules.specs.declared.Profile.TheVariants.{Free, Meter, Shared}
 use Rattle.rules.specs.declared.Status.{Status}
 use Rattle.rules.specs.declared.Status.TheVariants.{Set, Delete, Ttl}
 use Rattle.local_node.specs.declared.Kind.TheVariants as kind
-use Rattle.local.specs.declared.Asked.{Asked}
-use Rattle.local.specs.declared.Asked.TheVariants as asked
+use Rattle.std.specs.Prelude.{None, Option, Some}
+use Rattle.local_node.specs.declared.Kind.{Kind}
 
 -- which of document 01's calls a wanted status asks for
-abbrev pub asked_by : (wanted : Status) → Asked
-asked_by Set = asked.Call kind.Setting
-asked_by Delete = asked.Nothing
-asked_by Ttl = asked.Call kind.SettingTtl
+abbrev pub asked_by : (wanted : Status) → (Option Kind)
+asked_by Set = Some kind.Setting
+asked_by Delete = None
+asked_by Ttl = Some kind.SettingTtl
 
 -- The status that a number stands for. One that stands for none is taken for Delete: the write takes neither, and answers both with 10.
 abbrev pub wanted_of : (n : ℕ) → Status

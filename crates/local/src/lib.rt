@@ -15,16 +15,14 @@ ghost use Rattle.rules.specs.Delta.{status_byte};
 ghost use Rattle.rules.specs.Lent.{stored, on_table, lent_call, lent_write};
 ghost use Rattle.rules.specs.Layout.{decode, valid};
 ghost use Rattle.rules.specs.Whole.{decode_whole, valid_whole};
-ghost use Rattle.rules.specs.declared.Answer.TheVariants as answer;
+ghost use Rattle.std.specs.Prelude.{Err};
 ghost use Rattle.rules.specs.declared.Refusal.TheVariants.{BadTable};
 ghost use Rattle.local_node.specs.Writes.{call_of};
 ghost use Rattle.local.specs.Wanted.{asked_by, is_shared, wanted_of};
 
-use local_guard::Guarded;
 use local_node::Kind;
-use rules::{Answer, Party, Profile, Refusal, Status};
+use rules::{Party, Profile, Refusal, Status};
 use table::layout;
-use table_read::Span;
 
 // One of document 01's four calls at a key of a node of a good table: 2, then what the node's rules say.
 fn call_good(
@@ -34,17 +32,13 @@ fn call_good(
     key: &[u8],
     value: &[u8],
     clock: u64,
-) -> Answer
+) -> Result<(), Refusal>
     requires { valid table.old ≡ true }
     ensures { Gives (stored (rule.call (call_of kind value.now clock) number key.now (decode table.old)))
         result table.new }
 {
-    match table_read::node_span(table, number) {
-        Span::Held { start, end } => {
-            local_node::write_node(&mut table[start..end], kind, key, value, clock)
-        }
-        Span::Missing => Answer::Refused(Refusal::NoNode),
-    }
+    let span = table_read::node_span(table, number).ok_or(Refusal::NoNode)?;
+    local_node::write_node(&mut table[span.start..span.end], kind, key, value, clock)
 }
 
 // The same on a whole table.
@@ -55,10 +49,10 @@ fn call_let(
     key: &[u8],
     value: &[u8],
     clock: u64,
-) -> Answer
+) -> Result<(), Refusal>
     requires { valid_whole table.old ≡ true }
     ensures { Gives
-        (on_table (answer.Refused BadTable) (rule.call (call_of kind value.now clock) number key.now) table.old)
+        (on_table (Err BadTable) (rule.call (call_of kind value.now clock) number key.now) table.old)
         result table.new }
 {
     call_good(&mut table[..layout::AREA], number, kind, key, value, clock)
@@ -73,12 +67,12 @@ fn call_guarded(
     key: &[u8],
     value: &[u8],
     clock: u64,
-) -> Answer
+) -> Result<(), Refusal>
     requires { valid_whole table.old ≡ true }
     ensures { Gives (lent_call party (call_of kind value.now clock) number key.now table.old) result table.new }
 {
     let profile = profile_check::profile_of(table);
-    match local_guard::guard(
+    local_guard::guard(
         &table[..layout::AREA],
         profile,
         party,
@@ -86,10 +80,8 @@ fn call_guarded(
         kind,
         key,
         value,
-    ) {
-        Guarded::Passed => call_good(&mut table[..layout::AREA], number, kind, key, value, clock),
-        Guarded::Refused(why) => Answer::Refused(why),
-    }
+    )?;
+    call_good(&mut table[..layout::AREA], number, kind, key, value, clock)
 }
 
 // The same. A free table lets all through, and pays one compare.
@@ -101,7 +93,7 @@ fn call_known(
     key: &[u8],
     value: &[u8],
     clock: u64,
-) -> Answer
+) -> Result<(), Refusal>
     requires { valid_whole table.old ≡ true }
     ensures { Gives (lent_call party (call_of kind value.now clock) number key.now table.old) result table.new }
 {
@@ -121,32 +113,25 @@ fn call(
     key: &[u8],
     value: &[u8],
     clock: u64,
-) -> Answer
+) -> Result<(), Refusal>
     ensures { Tells answer_told (lent_call party (call_of kind value.now clock) number key.now table.old)
         result table.new }
 {
-    if table_check::check_table(table) {
-        return call_guarded(table, party, number, kind, key, value, clock);
+    if !table_check::check_table(table) {
+        return Err(Refusal::BadTable);
     }
-    Answer::Refused(Refusal::BadTable)
+    call_guarded(table, party, number, kind, key, value, clock)
 }
 
 // ---- the write
 
-// Which of the four calls a wanted status asks for.
-#[derive(Clone, Copy)]
-enum Asked {
-    Call(Kind),
-    Nothing,
-}
-
-fn asked_call(wanted: Status) -> Asked
+fn asked_call(wanted: Status) -> Option<Kind>
     ensures { result ≡ asked_by wanted }
 {
     match wanted {
-        Status::Set => Asked::Call(Kind::Setting),
-        Status::Delete => Asked::Nothing,
-        Status::Ttl => Asked::Call(Kind::SettingTtl),
+        Status::Set => Some(Kind::Setting),
+        Status::Delete => None,
+        Status::Ttl => Some(Kind::SettingTtl),
     }
 }
 
@@ -172,15 +157,13 @@ fn write_guarded(
     value: &[u8],
     wanted: Status,
     clock: u64,
-) -> Answer
+) -> Result<(), Refusal>
     requires { valid_whole table.old ≡ true }
     ensures { Gives (lent_write party (status_byte wanted) value.now clock number key.now table.old)
         result table.new }
 {
-    match asked_call(wanted) {
-        Asked::Call(kind) => call_guarded(table, party, number, kind, key, value, clock),
-        Asked::Nothing => Answer::Refused(Refusal::BadTag),
-    }
+    let kind = asked_call(wanted).ok_or(Refusal::BadTag)?;
+    call_guarded(table, party, number, kind, key, value, clock)
 }
 
 // The same, without a step aside where the table is free.
@@ -192,15 +175,13 @@ pub fn write_known(
     value: &[u8],
     wanted: Status,
     clock: u64,
-) -> Answer
+) -> Result<(), Refusal>
     requires { valid_whole table.old ≡ true }
     ensures { Gives (lent_write party (status_byte wanted) value.now clock number key.now table.old)
         result table.new }
 {
-    match asked_call(wanted) {
-        Asked::Call(kind) => call_known(table, party, number, kind, key, value, clock),
-        Asked::Nothing => Answer::Refused(Refusal::BadTag),
-    }
+    let kind = asked_call(wanted).ok_or(Refusal::BadTag)?;
+    call_known(table, party, number, kind, key, value, clock)
 }
 
 // The write: the key's record of the node takes this value and the wanted status, Set or TTL, and stays as it is where it has both already. Under TTL a changed
@@ -213,15 +194,15 @@ pub fn write(
     value: &[u8],
     wanted: Status,
     clock: u64,
-) -> Answer
+) -> Result<(), Refusal>
     ensures { Tells answer_told
         (lent_write party (status_byte wanted) value.now clock number key.now table.old)
         result table.new }
 {
-    if table_check::check_table(table) {
-        return write_guarded(table, party, number, key, value, wanted, clock);
+    if !table_check::check_table(table) {
+        return Err(Refusal::BadTable);
     }
-    Answer::Refused(Refusal::BadTable)
+    write_guarded(table, party, number, key, value, wanted, clock)
 }
 
 // ---- the deletes
@@ -231,15 +212,17 @@ fn is_shared(table: &[u8]) -> bool
     requires { valid_whole table.now ≡ true }
     ensures { result ≡ is_shared (decode_whole table.now).kind.profile }
 {
-    match profile_check::profile_of(table) {
-        Profile::Free => false,
-        Profile::Meter => false,
-        Profile::Shared => true,
-    }
+    matches!(profile_check::profile_of(table), Profile::Shared)
 }
 
 // The two on a good table. The profiles let them through, but for the shared one.
-pub fn delete_known(table: &mut [u8], party: Party, number: u64, key: &[u8], clock: u64) -> Answer
+pub fn delete_known(
+    table: &mut [u8],
+    party: Party,
+    number: u64,
+    key: &[u8],
+    clock: u64,
+) -> Result<(), Refusal>
     requires { valid_whole table.old ≡ true }
     ensures { Gives (lent_call party (Deleting clock) number key.now table.old) result table.new }
 {
@@ -255,7 +238,7 @@ pub fn delete_after_ttl_known(
     number: u64,
     key: &[u8],
     clock: u64,
-) -> Answer
+) -> Result<(), Refusal>
     requires { valid_whole table.old ≡ true }
     ensures { Gives (lent_call party (DeletingAfterTtl clock) number key.now table.old) result table.new }
 {
@@ -274,7 +257,13 @@ pub fn delete_after_ttl_known(
 }
 
 // Delete: the key's record is emptied and hidden, and scheduled from this time on.
-pub fn delete(table: &mut [u8], party: Party, number: u64, key: &[u8], clock: u64) -> Answer
+pub fn delete(
+    table: &mut [u8],
+    party: Party,
+    number: u64,
+    key: &[u8],
+    clock: u64,
+) -> Result<(), Refusal>
     ensures { Tells answer_told (lent_call party (Deleting clock) number key.now table.old) result table.new }
 {
     call(table, party, number, Kind::Deleting, key, b"", clock)
@@ -287,7 +276,7 @@ pub fn delete_after_ttl(
     number: u64,
     key: &[u8],
     clock: u64,
-) -> Answer
+) -> Result<(), Refusal>
     ensures { Tells answer_told (lent_call party (DeletingAfterTtl clock) number key.now table.old) result table.new }
 {
     call(

@@ -19,7 +19,8 @@ use Rattle.rules.specs.Layout.{encode_node, decode_node}
 use Rattle.rules.specs.declared.Status.{Status}
 use Rattle.rules.specs.declared.Refusal.{Refusal}
 use Rattle.rules.specs.declared.Refusal.TheVariants.{NodeFull, Exhausted}
-use Rattle.rules.specs.declared.Answer.TheVariants as plain
+use Rattle.std.specs.Prelude.{Err}
+use Rattle.rules.specs.Results.{done}
 use Rattle.table.specs.Changes.{with_node, with_max, rec_of}
 use Rattle.table.specs.Tests.{recs_in}
 use Rattle.table.specs.Fits.{FitsEntry, LaidNode}
@@ -29,12 +30,12 @@ use Rattle.table_read.specs.declared.Place.TheVariants.{At, Free}
 use Rattle.local_grant.specs.Granting.{decided, node_in, change_of, full_at, allowed_at, with_stored}
 
 module _ (k b : List ℕ) (o : LaidNode b) (d : Decision) where
-  pub refused : (r : Refusal) → d ≡ Refuse r → Gives (decided k d b) (plain.Refused r) b
+  pub refused : (r : Refusal) → d ≡ Refuse r → Gives (decided k d b) (Err r) b
   unfolding act
   refused r e =
       (ap answer_of (sym e), sym o.is ∙ ap (λ (x : Decision). encode_node (with_node (act k x (node_in b)) (decode_node b))) (sym e))
 
-  pub left : d ≡ Leave → Gives (decided k d b) plain.Done b
+  pub left : d ≡ Leave → Gives (decided k d b) done b
   unfolding act
   left e = (ap answer_of (sym e), sym o.is ∙ ap (λ (x : Decision). encode_node (with_node (act k x (node_in b)) (decode_node b))) (sym e))
 
@@ -98,7 +99,7 @@ module _ (b : List ℕ) (o : LaidNode b) (m : ℕ) (h : m < numbers) (s : List �
 module _ (k v : List ℕ) (st : Status) (start : ℕ) (b : List ℕ) (o : LaidNode b) (x : ℕ) (e : x ≡ (node_in b).max) (h : x + 1 < numbers) (s : List ℕ)
     (p : s ≡ encode_node (with_max (x + 1) (decode_node b))) where
   pub given : (t : List ℕ) → t ≡ encode_node (with_stored (rec_of k v (x + 1) st start) (decode_node s)) → (d : Decision) → d ≡ Give (change_of v st start)
-      → Gives (decided k d b) plain.Done t
+      → Gives (decided k d b) done t
   unfolding act write
   given t w d g = (
     ap answer_of (sym g),

@@ -9,7 +9,8 @@ use Rattle.rules.specs.Local.{answer_of}
 use Rattle.rules.specs.Table.{Entry}
 use Rattle.rules.specs.Layout.{encode_node, decode_node}
 use Rattle.rules.specs.declared.Status.{Status}
-use Rattle.rules.specs.declared.Answer.{Answer}
+use Rattle.std.specs.Prelude.{Result}
+use Rattle.rules.specs.declared.Refusal.{Refusal}
 use Rattle.rules.specs.declared.Refusal.TheVariants.{NodeFull, Exhausted}
 use Rattle.table.specs.Changes.{with_node, with_recs}
 use Rattle.table_read.specs.declared.Place.{Place}
@@ -37,8 +38,8 @@ abbrev pub with_stored : (rec : Rec) (entry : Entry) → Entry
 with_stored r e = with_recs (store r e.node.recs) e
 
 -- what a decision answers, and the node's bytes after it
-abbrev pub decided : (key : Bytes) (decision : Decision) (node : Bytes) → Given Answer Bytes
+abbrev pub decided : (key : Bytes) (decision : Decision) (node : Bytes) → Given (Result (Unit {0}) Refusal) Bytes
 decided k d b = given (answer_of d) (encode_node (with_node (act k d (node_in b)) (decode_node b)))
 
-abbrev pub node_granted : (place : Place) (key : Bytes) (change : Change) (node : Bytes) → Given Answer Bytes
+abbrev pub node_granted : (place : Place) (key : Bytes) (change : Change) (node : Bytes) → Given (Result (Unit {0}) Refusal) Bytes
 node_granted p k c b = decided k (allowed_at p c (node_in b)) b

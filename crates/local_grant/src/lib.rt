@@ -13,7 +13,7 @@ ghost use Rattle.table_read.specs.Find.{find_key};
 ghost use Rattle.table_read.specs.declared.Place.TheVariants.{At};
 ghost use Rattle.local_grant.specs.Granting.{node_in, change_of, full_at, with_stored, node_granted};
 
-use rules::{Answer, Header, Refusal, Status, sizes};
+use rules::{Header, Refusal, Status, sizes};
 use table::layout;
 use table_read::Place;
 
@@ -57,20 +57,20 @@ pub fn grant(
     value: &[u8],
     status: Status,
     start: u64,
-) -> Answer
+) -> Result<(), Refusal>
     requires { LaidNode node.old × (find_key key.now (recs_in node.old) ≡ place) × (length key.now ≤ max_key) × (length value.now ≤ max_value) }
     ensures { Gives (node_granted place key.now (change_of value.now status start) node.old) result node.new }
 {
     if is_full(node, place) {
-        return Answer::Refused(Refusal::NodeFull);
+        return Err(Refusal::NodeFull);
     }
     let max = fields::read_u64(node, layout::MAX);
     if max == sizes::TOP {
-        return Answer::Refused(Refusal::Exhausted);
+        return Err(Refusal::Exhausted);
     }
     table_write::set_max(node, max + 1);
     place_record(node, place, key, value, max + 1, status, start);
-    Answer::Done
+    Ok(())
 }
 
 // The record of a key that is there changes: 6, or max rises and the record takes that version. It is `grant` at a place that is taken, by itself because a
@@ -82,15 +82,15 @@ pub fn rewrite(
     value: &[u8],
     status: Status,
     start: u64,
-) -> Answer
+) -> Result<(), Refusal>
     requires { LaidNode node.old × (find_key key.now (recs_in node.old) ≡ At j) × (length key.now ≤ max_key) × (length value.now ≤ max_value) }
     ensures { Gives (node_granted (At j) key.now (change_of value.now status start) node.old) result node.new }
 {
     let max = fields::read_u64(node, layout::MAX);
     if max == sizes::TOP {
-        return Answer::Refused(Refusal::Exhausted);
+        return Err(Refusal::Exhausted);
     }
     table_write::set_max(node, max + 1);
     table_write::put_record(node, j, key, value, max + 1, status, start);
-    Answer::Done
+    Ok(())
 }

@@ -23,35 +23,36 @@ use Rattle.local_node.specs.Writes.{call_of}
 use Rattle.local_node.specs.declared.Kind.{Kind}
 use Rattle.local_node.specs.declared.Kind.TheVariants as kind
 use Rattle.local_guard.specs.Guarding.{bringing, guarded_by}
-use Rattle.local_guard.specs.declared.Guarded.{Guarded}
-use Rattle.local_guard.specs.declared.Guarded.TheVariants.{Passed, Refused}
+use Rattle.std.specs.Prelude.{Err, Result}
+use Rattle.rules.specs.declared.Refusal.{Refusal}
+use Rattle.rules.specs.Results.{done}
 
 -- 18, by a test
-abbrev pub by_total : (small : Bool) → Guarded
+abbrev pub by_total : (small : Bool) → (Result (Unit {0}) Refusal)
 by_total b = guarded_by (pick b (some SmallerTotal) none)
 
 -- ---- the record there
 
 module _ (h : Bool) (n m : ℕ) where
-  pub hidden-passes : h ≡ true → Passed ≡ by_total (not h && ltb n m)
+  pub hidden-passes : h ≡ true → done ≡ by_total (not h && ltb n m)
   hidden-passes e = rw e refl
 
   module _ (e : h ≡ false) where
-    pub smaller-refused : n < m → Refused SmallerTotal ≡ by_total (not h && ltb n m)
+    pub smaller-refused : n < m → Err SmallerTotal ≡ by_total (not h && ltb n m)
     smaller-refused g = rw (e, lt-ltb n m g) refl
 
-    pub greater-passes : m ≤ n → Passed ≡ by_total (not h && ltb n m)
+    pub greater-passes : m ≤ n → done ≡ by_total (not h && ltb n m)
     greater-passes g = rw (e, le-ltb n m g) refl
 
 -- ---- the key
 
 module _ (r : KeyValue) where
-  pub other_key : {t : Bool} → t ≡ same_bytes r.key total_key → t ≡ false → (o : Option Rec) → Passed ≡ by_total (smaller r o)
+  pub other_key : {t : Bool} → t ≡ same_bytes r.key total_key → t ≡ false → (o : Option Rec) → done ≡ by_total (smaller r o)
   unfolding smaller
   other_key e q none = refl
   other_key e q (some x) = ap by_total (sym (and_no (same_bytes r.key total_key) (not (hidden x.kv.status) && ltb (numeral 0 r.value) (numeral 0 x.kv.value)) (sym e ∙ q)))
 
-  pub no_record : (o : Option Rec) → o ≡ none → Passed ≡ by_total (smaller r o)
+  pub no_record : (o : Option Rec) → o ≡ none → done ≡ by_total (smaller r o)
   unfolding smaller
   no_record o e = sym (ap (λ (x : Option Rec). by_total (smaller r x)) e)
 
@@ -65,18 +66,18 @@ module _ (r : KeyValue) where
 -- ---- the write
 
 module _ (k v : List ℕ) (st : Status) (o : Option Rec) where
-  abbrev sized : Guarded
+  abbrev sized : (Result (Unit {0}) Refusal)
   sized = guarded_by (pick (leb (length k) max_key && leb (length v) max_value) (meter_guard (some (bringing k v st)) o) none)
 
-  pub long-key : max_key < length k → Passed ≡ sized
+  pub long-key : max_key < length k → done ≡ sized
   long-key h = rw (lt-leb (length k) max_key h) refl
 
   module _ (f : length k ≤ max_key) where
-    pub long-value : max_value < length v → Passed ≡ sized
+    pub long-value : max_value < length v → done ≡ sized
     long-value h = rw (le-leb (length k) max_key f, lt-leb (length v) max_value h) refl
 
     module _ (g : length v ≤ max_value) {t : Bool} (e : t ≡ (meter_key k && meter_value st v)) where
-      pub not-formed : t ≡ false → Refused BadForm ≡ sized
+      pub not-formed : t ≡ false → Err BadForm ≡ sized
       not-formed q = rw (le-leb (length k) max_key f, le-leb (length v) max_value g, sym e ∙ q) refl
 
       pub formed : t ≡ true → by_total (smaller (bringing k v st) o) ≡ sized
@@ -93,21 +94,21 @@ record-formed l e r m = all_from (λ (x : Rec). in_form Meter x.kv) l e r m
 -- ---- the kinds
 
 -- the deletes pass
-pub no_write : (b : Bool) → Passed ≡ guarded_by (pick b none none)
+pub no_write : (b : Bool) → done ≡ guarded_by (pick b none none)
 no_write true = refl
 no_write false = refl
 
 module _ (v k : List ℕ) (l : List Rec) (kd : Kind) where
-  pub of-set : kd ≡ kind.Setting → (g : Guarded) → g ≡ guarded_by (guard_at Meter Nobody (call_of kind.Setting v 0) k l) → g ≡ guarded_by (guard_at Meter Nobody (call_of kd v 0) k l)
+  pub of-set : kd ≡ kind.Setting → (g : (Result (Unit {0}) Refusal)) → g ≡ guarded_by (guard_at Meter Nobody (call_of kind.Setting v 0) k l) → g ≡ guarded_by (guard_at Meter Nobody (call_of kd v 0) k l)
   of-set e g q = q ∙ sym (ap (λ (x : Kind). guarded_by (guard_at Meter Nobody (call_of x v 0) k l)) e)
 
-  pub of-ttl : kd ≡ kind.SettingTtl → (g : Guarded) → g ≡ guarded_by (guard_at Meter Nobody (call_of kind.SettingTtl v 0) k l) → g ≡ guarded_by (guard_at Meter Nobody (call_of kd v 0) k l)
+  pub of-ttl : kd ≡ kind.SettingTtl → (g : (Result (Unit {0}) Refusal)) → g ≡ guarded_by (guard_at Meter Nobody (call_of kind.SettingTtl v 0) k l) → g ≡ guarded_by (guard_at Meter Nobody (call_of kd v 0) k l)
   of-ttl e g q = q ∙ sym (ap (λ (x : Kind). guarded_by (guard_at Meter Nobody (call_of x v 0) k l)) e)
 
-  pub of-delete : kd ≡ kind.Deleting → Passed ≡ guarded_by (guard_at Meter Nobody (call_of kd v 0) k l)
+  pub of-delete : kd ≡ kind.Deleting → done ≡ guarded_by (guard_at Meter Nobody (call_of kd v 0) k l)
   of-delete e = no_write (leb (length k) max_key && leb 0 max_value) ∙ sym (ap (λ (x : Kind). guarded_by (guard_at Meter Nobody (call_of x v 0) k l)) e)
 
-  pub of-delete-after : kd ≡ kind.DeletingAfterTtl → Passed ≡ guarded_by (guard_at Meter Nobody (call_of kd v 0) k l)
+  pub of-delete-after : kd ≡ kind.DeletingAfterTtl → done ≡ guarded_by (guard_at Meter Nobody (call_of kd v 0) k l)
   of-delete-after e = no_write (leb (length k) max_key && leb 0 max_value) ∙ sym (ap (λ (x : Kind). guarded_by (guard_at Meter Nobody (call_of x v 0) k l)) e)
 
 -- the meter profile does not look at the party

@@ -17,8 +17,9 @@ use Rattle.rules.specs.declared.Party.{Party}
 use Rattle.rules.specs.declared.Profile.TheVariants.{Shared}
 use Rattle.rules.specs.declared.Refusal.TheVariants.{NodeFull, OtherParty}
 use Rattle.local_guard.specs.Guarding.{guarded_by}
-use Rattle.local_guard.specs.declared.Guarded.{Guarded}
-use Rattle.local_guard.specs.declared.Guarded.TheVariants.{Passed, Refused}
+use Rattle.std.specs.Prelude.{Err, Result}
+use Rattle.rules.specs.declared.Refusal.{Refusal}
+use Rattle.rules.specs.Results.{done}
 
 -- ---- the sizes
 
@@ -32,14 +33,14 @@ module _ (c : Call) (k : List ℕ) where
 -- ---- a write: the 17th key
 
 module _ (mine : List ℕ → Bool) (r : KeyValue) (l : List Rec) (n : ℕ) (q : n ≡ length (of_keys mine l)) where
-  pub has_room : n < max_each → (o : Option Rec) → Passed ≡ guarded_by (full_guard mine (some r) o l)
+  pub has_room : n < max_each → (o : Option Rec) → done ≡ guarded_by (full_guard mine (some r) o l)
   has_room h none = sym (ap (λ (x : Bool). guarded_by (pick x (some NodeFull) none)) (ap (leb max_each) (sym q) ∙ lt-leb max_each n h))
   has_room h (some x) = refl
 
-  pub there : (o : Option Rec) (x : Rec) → o ≡ some x → Passed ≡ guarded_by (full_guard mine (some r) o l)
+  pub there : (o : Option Rec) (x : Rec) → o ≡ some x → done ≡ guarded_by (full_guard mine (some r) o l)
   there o x e = sym (ap (λ (y : Option Rec). guarded_by (full_guard mine (some r) y l)) e)
 
-  pub full : max_each ≤ n → (o : Option Rec) → o ≡ none → Refused NodeFull ≡ guarded_by (full_guard mine (some r) o l)
+  pub full : max_each ≤ n → (o : Option Rec) → o ≡ none → Err NodeFull ≡ guarded_by (full_guard mine (some r) o l)
   full h o e =
       sym (ap (λ (x : Bool). guarded_by (pick x (some NodeFull) none)) (ap (leb max_each) (sym q) ∙ le-leb max_each n h)) ∙ sym (ap (λ (y : Option Rec). guarded_by (full_guard mine (some r) y l)) e)
 
@@ -51,7 +52,7 @@ any-record mine r s (some x) l = refl
 -- ---- the call
 
 module _ (q : Party) (c : Call) (k : List ℕ) (l : List Rec) {fits : Bool} (e : fits ≡ sizes_fit c k) where
-  pub too_long : fits ≡ false → Passed ≡ guarded_by (guard_at Shared q c k l)
+  pub too_long : fits ≡ false → done ≡ guarded_by (guard_at Shared q c k l)
   too_long f = sym (ap (λ (x : Bool). guarded_by (pick x (guard_of Shared q c k l) none)) (sym e ∙ f))
 
   module _ (f : fits ≡ true) {owns : Bool} (o : owns ≡ own q k) where
@@ -60,8 +61,8 @@ module _ (q : Party) (c : Call) (k : List ℕ) (l : List Rec) {fits : Bool} (e :
         ap (λ (x : Bool). guarded_by (pick x (full_guard (own q) (brings c k) (find k l) l) (some OtherParty))) o
         ∙ sym (ap (λ (x : Bool). guarded_by (pick x (guard_of Shared q c k l) none)) (sym e ∙ f))
 
-    pub others : owns ≡ false → Refused OtherParty ≡ guarded_by (guard_at Shared q c k l)
+    pub others : owns ≡ false → Err OtherParty ≡ guarded_by (guard_at Shared q c k l)
     others g = sym (ap (λ (x : Bool). guarded_by (pick x (full_guard (own q) (brings c k) (find k l) l) (some OtherParty))) g) ∙ within
 
-    pub its_own : owns ≡ true → (g : Guarded) → g ≡ guarded_by (full_guard (own q) (brings c k) (find k l) l) → g ≡ guarded_by (guard_at Shared q c k l)
+    pub its_own : owns ≡ true → (g : (Result (Unit {0}) Refusal)) → g ≡ guarded_by (full_guard (own q) (brings c k) (find k l) l) → g ≡ guarded_by (guard_at Shared q c k l)
     its_own h g p = p ∙ sym (ap (λ (x : Bool). guarded_by (pick x (full_guard (own q) (brings c k) (find k l) l) (some OtherParty))) h) ∙ within

@@ -4,12 +4,12 @@ use Rattle.fields.specs.Numbers.{Bytes}
 use Rattle.rules.specs.Node.{KeyValue}
 use Rattle.rules.specs.declared.Refusal.{Refusal}
 use Rattle.rules.specs.declared.Status.{Status}
-use Rattle.local_guard.specs.declared.Guarded.{Guarded}
-use Rattle.local_guard.specs.declared.Guarded.TheVariants.{Passed, Refused}
+use Rattle.std.specs.Prelude.{Err, Result}
+use Rattle.rules.specs.Results.{done}
 
-abbrev pub guarded_by : (refused : Option Refusal) → Guarded
-guarded_by none = Passed
-guarded_by (some r) = Refused r
+abbrev pub guarded_by : (refused : Option Refusal) → (Result (Unit {0}) Refusal)
+guarded_by none = done
+guarded_by (some r) = Err r
 
 -- the record that a write with this status brings, but for its version
 abbrev pub bringing : (key value : Bytes) (status : Status) → KeyValue

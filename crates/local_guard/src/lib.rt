@@ -26,28 +26,17 @@ use local_node::Kind;
 use rules::{Party, Profile, Record, Refusal, Status};
 use table_read::{Place, Span};
 
-// Whether the profile lets a call through.
-#[derive(Clone, Copy)]
-pub enum Guarded {
-    Passed,
-    Refused(Refusal),
-}
-
 // ---- the meter profile
 
 // Whether a record of this status is hidden.
 fn is_hidden(status: Status) -> bool
     ensures { result ≡ hidden status }
 {
-    match status {
-        Status::Set => false,
-        Status::Delete => true,
-        Status::Ttl => false,
-    }
+    matches!(status, Status::Delete)
 }
 
 // A value in form against that of a record in form: 18 where it states a smaller number, unless the record is hidden.
-fn guard_held(record: &[u8], value: &[u8], status: Status) -> Guarded
+fn guard_held(record: &[u8], value: &[u8], status: Status) -> Result<(), Refusal>
     requires { (length «record».now ≡ rec_width) × (key_length «record».now ≤ max_key) × (value_length «record».now ≤ max_value)
         × (in_form Meter (decode_rec «record».now).kv ≡ true) × (meter_value status value.now ≡ true) }
     ensures { result ≡ guarded_by (pick
@@ -55,74 +44,78 @@ fn guard_held(record: &[u8], value: &[u8], status: Status) -> Guarded
         && ltb (numeral 0 value.now) (numeral 0 (decode_rec «record».now).kv.value))
         (some SmallerTotal) none) }
 {
-    let held = table_read::read_record(record);
-    let before = held.status;
-    if is_hidden(before) {
-        return Guarded::Passed;
+    if is_hidden(table_read::read_record(record).status) {
+        return Ok(());
     }
     if meter_form::number_of(value) < meter_form::number_of(table::value_of(record)) {
-        return Guarded::Refused(Refusal::SmallerTotal);
+        return Err(Refusal::SmallerTotal);
     }
-    Guarded::Passed
+    Ok(())
 }
 
 // A write in form: 18.
-fn guard_total(node: &[u8], key: &[u8], value: &[u8], status: Status) -> Guarded
+fn guard_total(node: &[u8], key: &[u8], value: &[u8], status: Status) -> Result<(), Refusal>
     requires { LaidNode node.now × (keys_rise (recs_in node.now) ≡ true) × (recs_formed Meter (recs_in node.now) ≡ true)
         × (meter_value status value.now ≡ true) }
     ensures { result ≡ guarded_by
         (pick (smaller (bringing key.now value.now status)
         (find key.now (recs_in node.now))) (some SmallerTotal) none) }
 {
-    if fields::same(key, b"total") {
-        return match table_read::search_key(node, key) {
-            Place::At(j) => guard_held(table::record_of(node, j), value, status),
-            Place::Free(_) => Guarded::Passed,
-        };
+    if !fields::same(key, b"total") {
+        return Ok(());
     }
-    Guarded::Passed
+    match table_read::search_key(node, key) {
+        Place::At(j) => guard_held(table::record_of(node, j), value, status),
+        Place::Free(_) => Ok(()),
+    }
 }
 
 // A write, of which 1 is asked before: 17, 18.
-fn guard_write(node: &[u8], key: &[u8], value: &[u8], status: Status) -> Guarded
+fn guard_write(node: &[u8], key: &[u8], value: &[u8], status: Status) -> Result<(), Refusal>
     requires { LaidNode node.now × (keys_rise (recs_in node.now) ≡ true) × (recs_formed Meter (recs_in node.now) ≡ true) }
     ensures { result ≡ guarded_by (pick (leb (length key.now) max_key && leb (length value.now) max_value)
         (meter_guard (some (bringing key.now value.now status)) (find key.now (recs_in node.now))) none) }
 {
     if Record::KEY < key.len() {
-        return Guarded::Passed;
+        return Ok(());
     }
     if Record::VALUE < value.len() {
-        return Guarded::Passed;
+        return Ok(());
     }
-    if meter_form::is_formed(key, value, status) {
-        return guard_total(node, key, value, status);
+    if !meter_form::is_formed(key, value, status) {
+        return Err(Refusal::BadForm);
     }
-    Guarded::Refused(Refusal::BadForm)
+    guard_total(node, key, value, status)
 }
 
 // One of the four calls at a key of a node: the deletes pass.
-fn guard_node(node: &[u8], kind: Kind, key: &[u8], value: &[u8]) -> Guarded
+fn guard_node(node: &[u8], kind: Kind, key: &[u8], value: &[u8]) -> Result<(), Refusal>
     requires { LaidNode node.now × (keys_rise (recs_in node.now) ≡ true) × (recs_formed Meter (recs_in node.now) ≡ true) }
     ensures { result ≡ guarded_by (guard_at Meter Nobody (call_of kind value.now 0) key.now (recs_in node.now)) }
 {
     match kind {
         Kind::Setting => guard_write(node, key, value, Status::Set),
         Kind::SettingTtl => guard_write(node, key, value, Status::Ttl),
-        Kind::Deleting => Guarded::Passed,
-        Kind::DeletingAfterTtl => Guarded::Passed,
+        Kind::Deleting => Ok(()),
+        Kind::DeletingAfterTtl => Ok(()),
     }
 }
 
 // On a good meter table: a node that is not held passes, as 2 comes first.
-fn guard_meter(table: &[u8], number: u64, kind: Kind, key: &[u8], value: &[u8]) -> Guarded
+fn guard_meter(
+    table: &[u8],
+    number: u64,
+    kind: Kind,
+    key: &[u8],
+    value: &[u8],
+) -> Result<(), Refusal>
     requires { (valid table.now ≡ true) × (profile_obeys Meter (decode table.now) ≡ true) }
     ensures { result ≡ guarded_by
         (guard_in Meter Nobody (call_of kind value.now 0) key.now (node_of number (decode table.now))) }
 {
     match table_read::node_span(table, number) {
-        Span::Held { start, end } => guard_node(&table[start..end], kind, key, value),
-        Span::Missing => Guarded::Passed,
+        Some(Span { start, end }) => guard_node(&table[start..end], kind, key, value),
+        None => Ok(()),
     }
 }
 
@@ -144,23 +137,29 @@ fn is_sized(kind: Kind, key: &[u8], value: &[u8]) -> bool
 }
 
 // A write at an own key: 5 where the party has 16 and the key is not there. The count is quicker found than the key.
-fn guard_own(node: &[u8], party: Party, key: &[u8]) -> Guarded
+fn guard_own(node: &[u8], party: Party, key: &[u8]) -> Result<(), Refusal>
     requires { LaidNode node.now × (keys_rise (recs_in node.now) ≡ true) × (recs_formed Shared (recs_in node.now) ≡ true) }
     ensures { result ≡ guarded_by (full_guard (own party) (some (bringing key.now [] Set))
         (find key.now (recs_in node.now)) (recs_in node.now)) }
 {
     let seen = own_rows::sight_of(node, Profile::Shared, party);
     if seen.count < Party::RECORDS {
-        return Guarded::Passed;
+        return Ok(());
     }
     match table_read::search_key(node, key) {
-        Place::At(_) => Guarded::Passed,
-        Place::Free(_) => Guarded::Refused(Refusal::NodeFull),
+        Place::At(_) => Ok(()),
+        Place::Free(_) => Err(Refusal::NodeFull),
     }
 }
 
 // One of the four calls at an own key: the deletes pass.
-fn guard_kind(node: &[u8], party: Party, kind: Kind, key: &[u8], value: &[u8]) -> Guarded
+fn guard_kind(
+    node: &[u8],
+    party: Party,
+    kind: Kind,
+    key: &[u8],
+    value: &[u8],
+) -> Result<(), Refusal>
     requires { LaidNode node.now × (keys_rise (recs_in node.now) ≡ true) × (recs_formed Shared (recs_in node.now) ≡ true) }
     ensures { result ≡ guarded_by (full_guard (own party) (brings (call_of kind value.now 0) key.now)
         (find key.now (recs_in node.now)) (recs_in node.now)) }
@@ -168,23 +167,29 @@ fn guard_kind(node: &[u8], party: Party, kind: Kind, key: &[u8], value: &[u8]) -
     match kind {
         Kind::Setting => guard_own(node, party, key),
         Kind::SettingTtl => guard_own(node, party, key),
-        Kind::Deleting => Guarded::Passed,
-        Kind::DeletingAfterTtl => Guarded::Passed,
+        Kind::Deleting => Ok(()),
+        Kind::DeletingAfterTtl => Ok(()),
     }
 }
 
 // One of the four calls at a key of a node: 1 comes before, then 19, though the key be not there, then 5.
-fn guard_party(node: &[u8], party: Party, kind: Kind, key: &[u8], value: &[u8]) -> Guarded
+fn guard_party(
+    node: &[u8],
+    party: Party,
+    kind: Kind,
+    key: &[u8],
+    value: &[u8],
+) -> Result<(), Refusal>
     requires { LaidNode node.now × (keys_rise (recs_in node.now) ≡ true) × (recs_formed Shared (recs_in node.now) ≡ true) }
     ensures { result ≡ guarded_by (guard_at Shared party (call_of kind value.now 0) key.now (recs_in node.now)) }
 {
-    if is_sized(kind, key, value) {
-        if party_form::owns(party, key) {
-            return guard_kind(node, party, kind, key, value);
-        }
-        return Guarded::Refused(Refusal::OtherParty);
+    if !is_sized(kind, key, value) {
+        return Ok(());
     }
-    Guarded::Passed
+    if !party_form::owns(party, key) {
+        return Err(Refusal::OtherParty);
+    }
+    guard_kind(node, party, kind, key, value)
 }
 
 // On a good shared table: a node that is not held passes, as 2 comes first.
@@ -195,14 +200,14 @@ fn guard_shared(
     kind: Kind,
     key: &[u8],
     value: &[u8],
-) -> Guarded
+) -> Result<(), Refusal>
     requires { (valid table.now ≡ true) × (profile_obeys Shared (decode table.now) ≡ true) }
     ensures { result ≡ guarded_by
         (guard_in Shared party (call_of kind value.now 0) key.now (node_of number (decode table.now))) }
 {
     match table_read::node_span(table, number) {
-        Span::Held { start, end } => guard_party(&table[start..end], party, kind, key, value),
-        Span::Missing => Guarded::Passed,
+        Some(Span { start, end }) => guard_party(&table[start..end], party, kind, key, value),
+        None => Ok(()),
     }
 }
 
@@ -217,13 +222,13 @@ pub fn guard(
     kind: Kind,
     key: &[u8],
     value: &[u8],
-) -> Guarded
+) -> Result<(), Refusal>
     requires { (valid table.now ≡ true) × (profile_obeys profile (decode table.now) ≡ true) }
     ensures { result ≡ guarded_by
         (guard_in profile party (call_of kind value.now 0) key.now (node_of number (decode table.now))) }
 {
     match profile {
-        Profile::Free => Guarded::Passed,
+        Profile::Free => Ok(()),
         Profile::Meter => guard_meter(table, number, kind, key, value),
         Profile::Shared => guard_shared(table, party, number, kind, key, value),
     }

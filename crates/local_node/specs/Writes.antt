@@ -10,7 +10,8 @@ use Rattle.rules.specs.Sizes.{max_key, max_value}
 use Rattle.rules.specs.Node.{Rec, Node, Change, Call, Setting, SettingTtl, Deleting, DeletingAfterTtl, Decision, Refuse, Leave, same_status, find, unless_same, allowed, decide}
 use Rattle.rules.specs.declared.Status.{Status}
 use Rattle.rules.specs.declared.Status.TheVariants.{Delete, Ttl}
-use Rattle.rules.specs.declared.Answer.{Answer}
+use Rattle.std.specs.Prelude.{Result}
+use Rattle.rules.specs.declared.Refusal.{Refusal}
 use Rattle.rules.specs.declared.Refusal.TheVariants.{TooLong}
 use Rattle.table.specs.Places.{rec_at}
 use Rattle.table_read.specs.declared.Place.TheVariants.{At}
@@ -65,14 +66,14 @@ setting k c n = within k c.value (allowed k n (unless_same (find k n.recs) c))
 abbrev pub copied : (value out : Bytes) → Given ℕ Bytes
 copied v out = given (length v) (put 0 v out)
 
-abbrev pub node_set_at : (j : ℕ) (key : Bytes) (change : Change) (node : Bytes) → Given Answer Bytes
+abbrev pub node_set_at : (j : ℕ) (key : Bytes) (change : Change) (node : Bytes) → Given (Result (Unit {0}) Refusal) Bytes
 node_set_at j k c b = decided k (changing j (rec_at j b) c (node_in b)) b
 
-abbrev pub node_set : (key : Bytes) (change : Change) (node : Bytes) → Given Answer Bytes
+abbrev pub node_set : (key : Bytes) (change : Change) (node : Bytes) → Given (Result (Unit {0}) Refusal) Bytes
 node_set k c b = decided k (setting k c (node_in b)) b
 
-abbrev pub node_dropped : (j : ℕ) (keeps : Bool) (now : ℕ) (key node : Bytes) → Given Answer Bytes
+abbrev pub node_dropped : (j : ℕ) (keeps : Bool) (now : ℕ) (key node : Bytes) → Given (Result (Unit {0}) Refusal) Bytes
 node_dropped j keeps now k b = node_granted (At j) k (dropped keeps now (rec_at j b)) b
 
-abbrev pub node_called : (call : Call) (key node : Bytes) → Given Answer Bytes
+abbrev pub node_called : (call : Call) (key node : Bytes) → Given (Result (Unit {0}) Refusal) Bytes
 node_called c k b = decided k (decide c k (node_in b)) b

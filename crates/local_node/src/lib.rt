@@ -18,7 +18,7 @@ ghost use Rattle.local_grant.specs.Granting.{change_of};
 ghost use Rattle.local_node.specs.Writes.{alike, call_of, deleting};
 ghost use Rattle.local_node.specs.Writes.{copied, node_set_at, node_set, node_dropped, node_called};
 
-use rules::{Answer, Record, Refusal, Status};
+use rules::{Record, Refusal, Status};
 use table_read::Place;
 
 // Which of the four calls.
@@ -43,35 +43,44 @@ fn is_same(node: &[u8], j: usize, value: &[u8], status: Status) -> bool
     ensures { result ≡ alike (rec_at j node.now) value.now status }
 {
     let x = table::record_of(node, j);
-    let held = table_read::read_record(x);
-    let before = held.status;
-    if same_status(before, status) {
-        return fields::same(table::value_of(x), value);
-    }
-    false
+    same_status(table_read::read_record(x).status, status)
+        && fields::same(table::value_of(x), value)
 }
 
 // A set of record `j`, which has the key: nothing to change, 6, or the change.
-fn set_at(node: &mut [u8], j: usize, key: &[u8], value: &[u8], status: Status, start: u64) -> Answer
+fn set_at(
+    node: &mut [u8],
+    j: usize,
+    key: &[u8],
+    value: &[u8],
+    status: Status,
+    start: u64,
+) -> Result<(), Refusal>
     requires { LaidNode node.old × (find_key key.now (recs_in node.old) ≡ At j) × (length key.now ≤ max_key) × (length value.now ≤ max_value) }
     ensures { Gives (node_set_at j key.now (change_of value.now status start) node.old) result node.new }
 {
     if is_same(node, j, value, status) {
-        return Answer::Done;
+        return Ok(());
     }
     local_grant::rewrite(node, j, key, value, status, start)
 }
 
 // A set: 1, nothing to change, 5, 6, or the change.
-fn set_key(node: &mut [u8], key: &[u8], value: &[u8], status: Status, start: u64) -> Answer
+fn set_key(
+    node: &mut [u8],
+    key: &[u8],
+    value: &[u8],
+    status: Status,
+    start: u64,
+) -> Result<(), Refusal>
     requires { LaidNode node.old × (keys_rise (recs_in node.old) ≡ true) }
     ensures { Gives (node_set key.now (change_of value.now status start) node.old) result node.new }
 {
     if Record::KEY < key.len() {
-        return Answer::Refused(Refusal::TooLong);
+        return Err(Refusal::TooLong);
     }
     if Record::VALUE < value.len() {
-        return Answer::Refused(Refusal::TooLong);
+        return Err(Refusal::TooLong);
     }
     match table_read::search_key(node, key) {
         Place::At(j) => set_at(node, j, key, value, status, start),
@@ -90,7 +99,7 @@ fn copy_value(node: &[u8], j: usize, out: &mut [u8]) -> usize
 }
 
 // A delete of record `j`, which has the key, or one after TTL, which keeps the value: 6, or the record is scheduled.
-fn delete_at(node: &mut [u8], j: usize, key: &[u8], keeps: bool, clock: u64) -> Answer
+fn delete_at(node: &mut [u8], j: usize, key: &[u8], keeps: bool, clock: u64) -> Result<(), Refusal>
     requires { LaidNode node.old × (find_key key.now (recs_in node.old) ≡ At j) × (length key.now ≤ max_key) }
     ensures { Gives (node_dropped j keeps clock key.now node.old) result node.new }
 {
@@ -103,21 +112,27 @@ fn delete_at(node: &mut [u8], j: usize, key: &[u8], keeps: bool, clock: u64) -> 
 }
 
 // A delete, or one after TTL: 1, 3, 6, or the key's record is scheduled.
-fn delete_key(node: &mut [u8], key: &[u8], keeps: bool, clock: u64) -> Answer
+fn delete_key(node: &mut [u8], key: &[u8], keeps: bool, clock: u64) -> Result<(), Refusal>
     requires { LaidNode node.old × (keys_rise (recs_in node.old) ≡ true) }
     ensures { Gives (node_called (deleting keeps clock) key.now node.old) result node.new }
 {
     if Record::KEY < key.len() {
-        return Answer::Refused(Refusal::TooLong);
+        return Err(Refusal::TooLong);
     }
     match table_read::search_key(node, key) {
         Place::At(j) => delete_at(node, j, key, keeps, clock),
-        Place::Free(_) => Answer::Refused(Refusal::NoKey),
+        Place::Free(_) => Err(Refusal::NoKey),
     }
 }
 
 // One of the four calls at a key of a node. The deletes bring no value.
-pub fn write_node(node: &mut [u8], kind: Kind, key: &[u8], value: &[u8], clock: u64) -> Answer
+pub fn write_node(
+    node: &mut [u8],
+    kind: Kind,
+    key: &[u8],
+    value: &[u8],
+    clock: u64,
+) -> Result<(), Refusal>
     requires { LaidNode node.old × (keys_rise (recs_in node.old) ≡ true) }
     ensures { Gives (node_called (call_of kind value.now clock) key.now node.old) result node.new }
 {

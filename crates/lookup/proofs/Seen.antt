@@ -32,53 +32,53 @@ use Rattle.table.proofs.Wholes.{area-valid, area-formed}
 use Rattle.table_read.specs.Find.{find_key, span_in, node_start}
 use Rattle.table_read.specs.declared.Place.{Place}
 use Rattle.table_read.specs.declared.Place.TheVariants as place
+use Rattle.std.specs.Prelude.{Option as Optional}
+use Rattle.std.specs.Prelude.{Err, None, Ok, Result, Some}
+use Rattle.lookup.specs.declared.Found.{Found}
 use Rattle.table_read.specs.declared.Span.{Span}
-use Rattle.table_read.specs.declared.Span.TheVariants.{Held, Missing}
 use Rattle.table_read.proofs.Held.{held-rises, held_start, held-node, missing-node}
 use Rattle.own_rows.specs.Sight.{sight_in, seen_node, seen_held, front_in}
 use Rattle.own_rows.proofs.Keys.{find-seen, own_behind, own-there, own-nowhere}
 use Rattle.own_rows.proofs.Tables.{seen-recs, node_seen, seen-stands}
 use Rattle.lookup.specs.Lookup.{value_place, found_rec, find_rec, find_on, found_in, unless_other, find_on_as, find_as, start_of, handed, moved_by}
-use Rattle.lookup.specs.declared.Found.{Found}
-use Rattle.lookup.specs.declared.Found.TheVariants.{At, Nothing, Refused}
 use Rattle.lookup.proofs.Values.{value-place, value-nowhere, Stands, found-stands, area-stands}
 
 -- ---- in a node
 
 -- 19 comes behind a refusal
-pub refused-first : (t : Bool) (r : Refusal) → Refused r ≡ unless_other t (Refused r)
+pub refused-first : (t : Bool) (r : Refusal) → Err r ≡ unless_other t (Err r)
 refused-first true r = refl
 refused-first false r = refl
 
 -- the search itself refuses nothing
-none-refused : (k : List ℕ) (start j : ℕ) (l : List Rec) → Refused OtherParty ≡ unless_other false (find_rec k start j l)
+none-refused : (k : List ℕ) (start j : ℕ) (l : List Rec) → Err OtherParty ≡ unless_other false (find_rec k start j l)
 unfolding find_rec
 none-refused k start j [] = refl
 none-refused k start j (a ∷ l) = go (same_bytes k a.kv.key) (hidden a.kv.status) (none-refused k start (suc j) l)
   where
-    go : (t u : Bool) → Refused OtherParty ≡ unless_other false (find_rec k start (suc j) l)
-        → Refused OtherParty ≡ unless_other false (pick t (pick u Nothing (At (value_place start j) (length a.kv.value))) (find_rec k start (suc j) l))
+    go : (t u : Bool) → Err OtherParty ≡ unless_other false (find_rec k start (suc j) l)
+        → Err OtherParty ≡ unless_other false (pick t (pick u (Ok None) (Ok (Some (record { start = (value_place start j); len = (length a.kv.value) })))) (find_rec k start (suc j) l))
     go true true ih = refl
     go true false ih = refl
     go false u ih = ih
 
 module _ (p : Profile) (q : Party) (k : List ℕ) (start : ℕ) (n : Node) where
-  pub long-first : max_key < length k → Refused TooLong ≡ find_on_as p q k start (some n)
+  pub long-first : max_key < length k → Err TooLong ≡ find_on_as p q k start (some n)
   long-first h =
       refused-first (sees p q k) TooLong
-      ∙ ap (λ (t : Bool). unless_other (sees p q k) (pick t (find_rec k start 0 (seen_node p q n).recs) (Refused TooLong))) (sym (lt-leb (length k) max_key h))
+      ∙ ap (λ (t : Bool). unless_other (sees p q k) (pick t (find_rec k start 0 (seen_node p q n).recs) (Err TooLong))) (sym (lt-leb (length k) max_key h))
 
   -- the key is not too long, and the test of its name came out so
   module _ (h : length k ≤ max_key) {t : Bool} (e : t ≡ sees p q k) where
     short : {u : Bool} → t ≡ u → unless_other u (find_rec k start 0 (seen_recs p q n.recs)) ≡ find_on_as p q k start (some n)
     short y =
         ap₂ (λ (u : Bool) (l : List Rec). unless_other u (find_rec k start 0 l)) (sym y ∙ e) (sym (seen-recs p q n))
-        ∙ ap (λ (u : Bool). unless_other (sees p q k) (pick u (find_rec k start 0 (seen_node p q n).recs) (Refused TooLong))) (sym (le-leb (length k) max_key h))
+        ∙ ap (λ (u : Bool). unless_other (sees p q k) (pick u (find_rec k start 0 (seen_node p q n).recs) (Err TooLong))) (sym (le-leb (length k) max_key h))
 
-    pub named-finds : t ≡ true → (r : Found) → r ≡ find_rec k start 0 (seen_recs p q n.recs) → r ≡ find_on_as p q k start (some n)
+    pub named-finds : t ≡ true → (r : (Result (Optional Found) Refusal)) → r ≡ find_rec k start 0 (seen_recs p q n.recs) → r ≡ find_on_as p q k start (some n)
     named-finds y r f = f ∙ short y
 
-    pub other-first : t ≡ false → Refused OtherParty ≡ find_on_as p q k start (some n)
+    pub other-first : t ≡ false → Err OtherParty ≡ find_on_as p q k start (some n)
     other-first y = none-refused k start 0 (seen_recs p q n.recs) ∙ short y
 
 -- what the search among all records says of those that the party sees
@@ -86,11 +86,11 @@ module _ (p : Profile) (q : Party) (k b : List ℕ) (start : ℕ) (s : keys_rise
   pub own_value : (j : ℕ) → find_key k (recs_in b) ≡ place.At j
       → found_rec start (j - (sight_in p q (recs_in b)).low) (rec_at j b) ≡ find_rec k start 0 (seen_recs p q (recs_in b))
   unfolding find_rec
-  own_value j e = sym (own-there p q b s f k h (found_rec start) Nothing (find_rec k start) (λ m. refl) (λ m a l. refl) j e)
+  own_value j e = sym (own-there p q b s f k h (found_rec start) (Ok None) (find_rec k start) (λ m. refl) (λ m a l. refl) j e)
 
-  pub no-own-value : (j : ℕ) → find_key k (recs_in b) ≡ place.Free j → Nothing ≡ find_rec k start 0 (seen_recs p q (recs_in b))
+  pub no-own-value : (j : ℕ) → find_key k (recs_in b) ≡ place.Free j → (Ok None) ≡ find_rec k start 0 (seen_recs p q (recs_in b))
   unfolding find_rec
-  no-own-value j e = sym (own-nowhere p q b s f k h (found_rec start) Nothing (find_rec k start) (λ m. refl) (λ m a l. refl) j e)
+  no-own-value j e = sym (own-nowhere p q b s f k h (found_rec start) (Ok None) (find_rec k start) (λ m. refl) (λ m a l. refl) j e)
 
   -- and where it stands in the bytes
   abbrev low : ℕ
@@ -99,10 +99,10 @@ module _ (p : Profile) (q : Party) (k b : List ℕ) (start : ℕ) (s : keys_rise
   rec-moved : (j : ℕ) → low ≤ j → found_rec start j (rec_at j b) ≡ moved_by (low * rec_width) (found_rec start (j - low) (rec_at j b))
   rec-moved j g = go (hidden (rec_at j b).kv.status)
     where
-      go : (t : Bool) → pick t Nothing (At (value_place start j) (length (rec_at j b).kv.value))
-          ≡ moved_by (low * rec_width) (pick t Nothing (At (value_place start (j - low)) (length (rec_at j b).kv.value)))
+      go : (t : Bool) → pick t (Ok None) (Ok (Some (record { start = (value_place start j); len = (length (rec_at j b).kv.value) })))
+          ≡ moved_by (low * rec_width) (pick t (Ok None) (Ok (Some (record { start = (value_place start (j - low)); len = (length (rec_at j b).kv.value) }))))
       go true = refl
-      go false = ap (λ (m : ℕ). At m (length (rec_at j b).kv.value)) (omega (arith, g))
+      go false = ap (λ (m : ℕ). (Ok (Some (record { start = m; len = (length (rec_at j b).kv.value) })))) (omega (arith, g))
 
   pub node-moved : find_rec k start 0 (recs_in b) ≡ moved_by (low * rec_width) (find_rec k start 0 (seen_recs p q (recs_in b)))
   node-moved = go (find_key k (recs_in b)) refl
@@ -120,7 +120,7 @@ module _ (p : Profile) (q : Party) (n : ℕ) (k : List ℕ) (t : Table) where
   pub seen-finds : find_on_as p q k (node_start n t) (node_of n t) ≡ find_as p q n k t
   seen-finds = ap (unless_other (sees p q k)) (seen-stands find_on k p q n t)
 
-  pub none-held : node_of n t ≡ none → Refused NoNode ≡ find_as p q n k t
+  pub none-held : node_of n t ≡ none → Err NoNode ≡ find_as p q n k t
   none-held e =
       refused-first (sees p q k) NoNode
       ∙ ap (λ (o : Option Node). unless_other (sees p q k) (find_on k (node_start n t) (seen_held p q o))) (sym e)
@@ -140,10 +140,10 @@ module _ (p : Profile) (q : Party) (n : ℕ) (k : List ℕ) (t : Table) where
     pub other_place : (m : ℕ) → 0 ≡ start_of (moved_by m (find_as p q n k t))
     other_place m = go (found_in n k (seen p q t)) ∙ ap (λ (u : Bool). start_of (moved_by m (unless_other u (found_in n k (seen p q t))))) (sym h)
       where
-        go : (f : Found) → 0 ≡ start_of (moved_by m (unless_other false f))
-        go (At s l) = refl
-        go Nothing = refl
-        go (Refused r) = refl
+        go : (f : (Result (Optional Found) Refusal)) → 0 ≡ start_of (moved_by m (unless_other false f))
+        go (Ok (Some f)) = refl
+        go (Ok None) = refl
+        go (Err r) = refl
 
   -- a key that it may name
   module _ (h : sees p q k ≡ true) where
@@ -175,17 +175,17 @@ front-found p q n k l v g h = go (span_in n l) refl ∙ ap (moved_by (front_in p
         → find_on k start (some m) ≡ moved_by ((sight_in p q m.recs).low * rec_width) (find_on k start (some (seen_node p q m)))
     on start m e = long (leb (length k) max_key)
       where
-        long : (b : Bool) → pick b (find_rec k start 0 m.recs) (Refused TooLong)
-            ≡ moved_by ((sight_in p q m.recs).low * rec_width) (pick b (find_rec k start 0 (seen_node p q m).recs) (Refused TooLong))
+        long : (b : Bool) → pick b (find_rec k start 0 m.recs) (Err TooLong)
+            ≡ moved_by ((sight_in p q m.recs).low * rec_width) (pick b (find_rec k start 0 (seen_node p q m).recs) (Err TooLong))
         long true = e ∙ ap (λ (x : List Rec). moved_by ((sight_in p q m.recs).low * rec_width) (find_rec k start 0 x)) (sym (seen-recs p q m))
         long false = refl
 
-    go : (s : Span) → span_in n l ≡ s → found_in n k t ≡ moved_by (front_in p q n t) (find_on k (node_start n t) (seen_held p q (node_of n t)))
-    go (Held start end) e =
-        let b : List ℕ = part start node_width l in
+    go : (s : (Optional Span)) → span_in n l ≡ s → found_in n k t ≡ moved_by (front_in p q n t) (find_on k (node_start n t) (seen_held p q (node_of n t)))
+    go (Some s) e =
+        let b : List ℕ = part s.start node_width l in
         let f : recs_formed p (recs_in b) ≡ true = node-formed p n t g (held-node n l v e) in
-        rw (held_start n l v e, held-node n l v e) (on start (decode_node b).node (node-moved p q k b start (held-rises n l v e) f h))
-    go Missing e = rw (missing-node n l v e) refl
+        rw (held_start n l v e, held-node n l v e) (on s.start (decode_node b).node (node-moved p q k b s.start (held-rises n l v e) f h))
+    go None e = rw (missing-node n l v e) refl
 
 -- and in a whole good table: what is handed out
 module _ (l : List ℕ) (v : valid_whole l ≡ true) (q : Party) (n : ℕ) (k : List ℕ) (h : sees (decode_whole l).kind.profile q k ≡ true) where
@@ -200,6 +200,6 @@ module _ (l : List ℕ) (v : valid_whole l ≡ true) (q : Party) (n : ℕ) (k : 
 
   pub whole-stands : Stands l (moved_by (front_in profile q n table) (find_as profile q n k table)) (handed (rule.lookup_as profile q n k table))
   whole-stands =
-      subst (λ (f : Found). Stands l f (handed (rule.lookup_as profile q n k table))) whole-found
+      subst (λ (f : (Result (Optional Found) Refusal)). Stands l f (handed (rule.lookup_as profile q n k table))) whole-found
       (subst (λ (r : rule.Found). Stands l (found_in n k table) (handed r)) (same-value profile q n k table h)
       (area-stands l v (found_in n k table) (handed (rule.lookup n k table)) (found-stands (area_of l) (area-valid l v) n k)))

@@ -32,35 +32,36 @@ use Rattle.table.proofs.Wholes.{area-valid, whole_long}
 use Rattle.table_read.specs.Find.{to_key, find_key, span_in}
 use Rattle.table_read.specs.declared.Place.{Place}
 use Rattle.table_read.specs.declared.Place.TheVariants as place
+use Rattle.std.specs.Prelude.{Option as Optional}
+use Rattle.std.specs.Prelude.{Err, None, Ok, Result, Some}
+use Rattle.lookup.specs.declared.Found.{Found}
+use Rattle.rules.specs.declared.Refusal.{Refusal}
 use Rattle.table_read.specs.declared.Span.{Span}
-use Rattle.table_read.specs.declared.Span.TheVariants.{Held, Missing}
 use Rattle.table_read.proofs.Searched.{search-at, search-free, key-hit, rec-in, rec-found, rec-missing, recs-ordered}
 use Rattle.table_read.proofs.Held.{node_end, node-fits, held-laid, held-rises, held_start, held-node, missing-node}
 use Rattle.lookup.specs.Lookup.{value_place, found_rec, find_rec, find_on, found_in, value_in, start_of, len_of, Within, HandedOut, Hands, part_of, handed}
-use Rattle.lookup.specs.declared.Found.{Found}
-use Rattle.lookup.specs.declared.Found.TheVariants.{At, Nothing, Refused}
 
 -- ---- what the search for the key says of the place, in the bytes of a node that begins at `start`
 
 module _ (k b : List ℕ) (start : ℕ) {p : Place} (f : p ≡ find_key k (recs_in b)) where
-  pub value-place : {j : ℕ} → p ≡ place.At j → (r : Found) → r ≡ found_rec start j (rec_at j b) → r ≡ find_rec k start 0 (recs_in b)
+  pub value-place : {j : ℕ} → p ≡ place.At j → (r : (Result (Optional Found) Refusal)) → r ≡ found_rec start j (rec_at j b) → r ≡ find_rec k start 0 (recs_in b)
   unfolding find_rec
   value-place {j} h r q =
       q
-      ∙ sym (search-at (to_key k) (λ (x : Rec). same_bytes k x.kv.key) (key-hit k) (found_rec start) Nothing (find_rec k start) (λ m. refl) (λ m a l. refl)
+      ∙ sym (search-at (to_key k) (λ (x : Rec). same_bytes k x.kv.key) (key-hit k) (found_rec start) (Ok None) (find_rec k start) (λ m. refl) (λ m a l. refl)
       (recs_in b) (decode_rec []) 0 j (sym f ∙ h)
       ∙ ap (λ (m : ℕ). found_rec start m (get_or (recs_in b) j (decode_rec []))) (zero-add j)
       ∙ ap (found_rec start j) (recs-at j b (decode_rec []) (rec-in b k j (sym f ∙ h))))
 
-  pub value-nowhere : keys_rise (recs_in b) ≡ true → {j : ℕ} → p ≡ place.Free j → Nothing ≡ find_rec k start 0 (recs_in b)
+  pub value-nowhere : keys_rise (recs_in b) ≡ true → {j : ℕ} → p ≡ place.Free j → (Ok None) ≡ find_rec k start 0 (recs_in b)
   unfolding find_rec
   value-nowhere s {j} h =
-      sym (search-free (to_key k) (λ (x : Rec). same_bytes k x.kv.key) (key-hit k) (found_rec start) Nothing (find_rec k start) (λ m. refl) (λ m a l. refl)
+      sym (search-free (to_key k) (λ (x : Rec). same_bytes k x.kv.key) (key-hit k) (found_rec start) (Ok None) (find_rec k start) (λ m. refl) (λ m a l. refl)
       (recs_in b) 0 j (recs-ordered b s k) (sym f ∙ h))
 
 -- ---- the node is held: what stands in the table from `start` on
 
-module _ (n : ℕ) (l : List ℕ) (v : valid l ≡ true) {start end : ℕ} (e : span_in n l ≡ Held start end) where
+module _ (n : ℕ) (l : List ℕ) (v : valid l ≡ true) {start end : ℕ} (e : span_in n l ≡ (Some (record { start = start; end = end }))) where
   abbrev node : List ℕ
   node = part start node_width l
 
@@ -84,10 +85,10 @@ module _ (n : ℕ) (l : List ℕ) (v : valid l ≡ true) {start end : ℕ} (e : 
 
 -- ---- the rules' answer
 
-abbrev Means : List ℕ → Found → rule.Found → Type 0
+abbrev Means : List ℕ → (Result (Optional Found) Refusal) → rule.Found → Type 0
 Means l f r = Within (length l) f × (value_in l f ≡ r)
 
-module _ (n : ℕ) (l : List ℕ) (v : valid l ≡ true) {start end : ℕ} (e : span_in n l ≡ Held start end) where
+module _ (n : ℕ) (l : List ℕ) (v : valid l ≡ true) {start end : ℕ} (e : span_in n l ≡ (Some (record { start = start; end = end }))) where
   -- by record j
   rec-means : (j : ℕ) → j < count_of (part start node_width l)
       → Means l (found_rec start j (rec_at j (part start node_width l))) (found_of (shown (some (rec_at j (part start node_width l)))))
@@ -106,7 +107,7 @@ module _ (n : ℕ) (l : List ℕ) (v : valid l ≡ true) {start end : ℕ} (e : 
       fits : o + m ≤ rec_width
       fits = omega (arith, laid-value (part start node_width l) (held-laid n l v e) j g)
 
-      go : (t : Bool) → Means l (pick t Nothing (At (value_place start j) (length r.kv.value))) (found_of (pick t none (some r.kv.value)))
+      go : (t : Bool) → Means l (pick t (Ok None) (Ok (Some (record { start = (value_place start j); len = (length r.kv.value) })))) (found_of (pick t none (some r.kv.value)))
       go true = (omega arith, refl)
       go false = (text-within n l v e j g o m fits r.kv.value refl, ap rule.Value (text-there n l v e j g o m fits r.kv.value refl))
 
@@ -120,15 +121,15 @@ module _ (n : ℕ) (l : List ℕ) (v : valid l ≡ true) {start end : ℕ} (e : 
 
       key : (p : Place) → p ≡ find_key k (recs_in b) → Means l (find_rec k start 0 (recs_in b)) (found_of (shown (find k (recs_in b))))
       key (place.At j) f =
-          subst (λ (x : Found). Means l x (found_of (shown (find k (recs_in b))))) (value-place k b start f refl (found_rec start j (rec_at j b)) refl)
+          subst (λ (x : (Result (Optional Found) Refusal)). Means l x (found_of (shown (find k (recs_in b))))) (value-place k b start f refl (found_rec start j (rec_at j b)) refl)
           (subst (λ (x : Option Rec). Means l (found_rec start j (rec_at j b)) (found_of (shown x))) (sym (rec-found b k j (sym f)))
           (rec-means j (rec-in b k j (sym f))))
       key (place.Free j) f =
-          subst (λ (x : Found). Means l x (found_of (shown (find k (recs_in b))))) (value-nowhere k b start f (held-rises n l v e) refl)
+          subst (λ (x : (Result (Optional Found) Refusal)). Means l x (found_of (shown (find k (recs_in b))))) (value-nowhere k b start f (held-rises n l v e) refl)
           (omega arith, ap (λ (x : Option Rec). found_of (shown x)) (sym (rec-missing b k j (held-rises n l v e) (sym f))))
 
       long : (t : Bool)
-          → Means l (pick t (find_rec k start 0 (recs_in b)) (Refused TooLong)) (pick t (found_of (shown (find k (recs_in b)))) (rule.NotFound TooLong))
+          → Means l (pick t (find_rec k start 0 (recs_in b)) (Err TooLong)) (pick t (found_of (shown (find k (recs_in b)))) (rule.NotFound TooLong))
       long true = key (find_key k (recs_in b)) refl
       long false = (omega arith, refl)
 
@@ -137,32 +138,32 @@ pub found-means : (l : List ℕ) (v : valid l ≡ true) (n : ℕ) (k : List ℕ)
 unfolding rule.lookup
 found-means l v n k = go (span_in n l) refl
   where
-    go : (s : Span) → span_in n l ≡ s → Means l (found_in n k (decode l)) (rule.lookup n k (decode l))
-    go (Held start end) e = rw (held_start n l v e, held-node n l v e) (node-means n l v e k)
-    go Missing e = rw (missing-node n l v e) (omega arith, refl)
+    go : (s : (Optional Span)) → span_in n l ≡ s → Means l (found_in n k (decode l)) (rule.lookup n k (decode l))
+    go (Some s) e = rw (held_start n l v e, held-node n l v e) (node-means n l v e k)
+    go None e = rw (missing-node n l v e) (omega arith, refl)
 
 -- ---- what is handed out
 
 -- a place that was found stands for these bytes
-abbrev pub Stands : List ℕ → Found → List ℕ → Type 0
+abbrev pub Stands : List ℕ → (Result (Optional Found) Refusal) → List ℕ → Type 0
 Stands l f bytes = Within (length l) f × (part (start_of f) (len_of f) l ≡ bytes)
 
 -- a refusal stands for none
-pub refused-stands : (l : List ℕ) (f : Found) → start_of f ≡ 0 → len_of f ≡ 0 → Stands l f []
+pub refused-stands : (l : List ℕ) (f : (Result (Optional Found) Refusal)) → start_of f ≡ 0 → len_of f ≡ 0 → Stands l f []
 unfolding part
 refused-stands l f s n = (omega arith, rw (s, n) refl)
 
-means-stands : (l : List ℕ) (f : Found) (r : rule.Found) → Means l f r → Stands l f (handed r)
+means-stands : (l : List ℕ) (f : (Result (Optional Found) Refusal)) (r : rule.Found) → Means l f r → Stands l f (handed r)
 unfolding part
-means-stands l (At start len) r h = (h.0, ap handed h.1)
-means-stands l Nothing r h = (h.0, ap handed h.1)
-means-stands l (Refused x) r h = (h.0, ap handed h.1)
+means-stands l (Ok (Some f)) r h = (h.0, ap handed h.1)
+means-stands l (Ok None) r h = (h.0, ap handed h.1)
+means-stands l (Err x) r h = (h.0, ap handed h.1)
 
 pub found-stands : (l : List ℕ) (v : valid l ≡ true) (n : ℕ) (k : List ℕ) → Stands l (found_in n k (decode l)) (handed (rule.lookup n k (decode l)))
 found-stands l v n k = means-stands l (found_in n k (decode l)) (rule.lookup n k (decode l)) (found-means l v n k)
 
 -- what stands at a place of the area stands there in the whole
-pub area-stands : (l : List ℕ) → valid_whole l ≡ true → (f : Found) (bytes : List ℕ) → Stands (area_of l) f bytes → Stands l f bytes
+pub area-stands : (l : List ℕ) → valid_whole l ≡ true → (f : (Result (Optional Found) Refusal)) (bytes : List ℕ) → Stands (area_of l) f bytes → Stands l f bytes
 area-stands l v f bytes s =
     let long : length (area_of l) ≡ table_width = valid-long (area_of l) (area-valid l v) in
     let w = whole_long l v in
@@ -173,12 +174,12 @@ area-stands l v f bytes s =
     (omega (arith, s.0, long, w), sym same ∙ s.1)
 
 -- the code found the place f, and it is g
-module _ (l : List ℕ) {f g : Found} (e : f ≡ g) (bytes : List ℕ) (s : Stands l g bytes) where
+module _ (l : List ℕ) {f g : (Result (Optional Found) Refusal)} (e : f ≡ g) (bytes : List ℕ) (s : Stands l g bytes) where
   pub found_within : Within (length l) f
   found_within = subst (Within (length l)) (sym e) s.0
 
   pub hands-found : (t p : ℕ × ℕ) (b : List ℕ) → Hands (part_of l f) t b p → Hands (record { bytes = bytes; start = start_of g }) t b p
-  hands-found t p b h = (h.0 ∙ ap (λ (x : Found). part (start_of x) (len_of x) l) e ∙ s.1, h.1, h.2 ∙ ap (λ (x : Found). t.1 + start_of x) e)
+  hands-found t p b h = (h.0 ∙ ap (λ (x : (Result (Optional Found) Refusal)). part (start_of x) (len_of x) l) e ∙ s.1, h.1, h.2 ∙ ap (λ (x : (Result (Optional Found) Refusal)). t.1 + start_of x) e)
 
 pub same-hands : {x y : HandedOut} → x ≡ y → (t p : ℕ × ℕ) (b : List ℕ) → Hands x t b p → Hands y t b p
 same-hands e t p b h = (h.0 ∙ ap (λ (x : HandedOut). x.bytes) e, h.1, h.2 ∙ ap (λ (x : HandedOut). t.1 + x.start) e)

@@ -20,95 +20,99 @@ ghost use Rattle.lookup.specs.Told.{found_told};
 
 use rules::{Party, Profile, Record, Refusal, Status};
 use table::layout;
-use table_read::{Place, Span};
+use table_read::Place;
 
-// What a lookup finds.
+// Where a value stands in a lent table: the `len` bytes from `start` on. An empty value is found too.
 #[derive(Clone, Copy)]
-pub enum Found {
-    // The value is the `len` bytes from `start` on of the lent table. An empty value is found too.
-    At { start: usize, len: usize },
-    // No such key, or its record is hidden.
-    Nothing,
-    Refused(Refusal),
+pub struct Found {
+    pub start: usize,
+    pub len: usize,
 }
 
 // The value of record `j` in a node's bytes, which begin at `start` in the table. Its place is told less the `low` records before it that are not seen.
-fn in_record(node: &[u8], start: usize, low: usize, j: usize) -> Found
+fn in_record(node: &[u8], start: usize, low: usize, j: usize) -> Result<Option<Found>, Refusal>
     requires { LaidNode node.now × (start ≤ table_width) × (low ≤ j) × (j < count_of node.now) }
     ensures { result ≡ found_rec start (j - low) (decode_rec (part (rec_place j) rec_width node.now)) }
 {
     let r = table_read::read_record(table::record_of(node, j));
     let value = start + table::record_place(j - low) + layout::VALUE;
-    let status = r.status;
-    match status {
-        Status::Delete => Found::Nothing,
-        Status::Set => Found::At {
+    match r.status {
+        Status::Delete => Ok(None),
+        Status::Set | Status::Ttl => Ok(Some(Found {
             start: value,
             len: r.valuelen,
-        },
-        Status::Ttl => Found::At {
-            start: value,
-            len: r.valuelen,
-        },
+        })),
     }
 }
 
 // The value of the key in a node's bytes, which begin at `start` in the table: 1.
-pub fn in_node(node: &[u8], start: usize, key: &[u8]) -> Found
+pub fn in_node(node: &[u8], start: usize, key: &[u8]) -> Result<Option<Found>, Refusal>
     requires { LaidNode node.now × (keys_rise (recs_in node.now) ≡ true) × (start ≤ table_width) }
     ensures { result ≡ find_on key.now start (some (decode_node node.now).node) }
 {
     if Record::KEY < key.len() {
-        return Found::Refused(Refusal::TooLong);
+        return Err(Refusal::TooLong);
     }
     match table_read::search_key(node, key) {
         Place::At(j) => in_record(node, start, 0, j),
-        Place::Free(_) => Found::Nothing,
+        Place::Free(_) => Ok(None),
     }
 }
 
 // The value of the key in what a party sees of a node's bytes, which begin at `start` in the table: 1, 19.
-fn in_sight(node: &[u8], start: usize, profile: Profile, party: Party, key: &[u8]) -> Found
+fn in_sight(
+    node: &[u8],
+    start: usize,
+    profile: Profile,
+    party: Party,
+    key: &[u8],
+) -> Result<Option<Found>, Refusal>
     requires { LaidNode node.now × (keys_rise (recs_in node.now) ≡ true) × (recs_formed profile (recs_in node.now) ≡ true) × (start ≤ table_width) }
     ensures { result ≡ find_on_as profile party key.now start (some (decode_node node.now).node) }
 {
     if Record::KEY < key.len() {
-        return Found::Refused(Refusal::TooLong);
+        return Err(Refusal::TooLong);
     }
-    if party_form::may_name(profile, party, key) {
-        match table_read::search_key(node, key) {
-            Place::At(j) => in_record(node, start, own_rows::low_of(node, profile, party), j),
-            Place::Free(_) => Found::Nothing,
-        }
-    } else {
-        Found::Refused(Refusal::OtherParty)
+    if !party_form::may_name(profile, party, key) {
+        return Err(Refusal::OtherParty);
+    }
+    match table_read::search_key(node, key) {
+        Place::At(j) => in_record(node, start, own_rows::low_of(node, profile, party), j),
+        Place::Free(_) => Ok(None),
     }
 }
 
 // Where the value of the key stands in the area of a good table: 2, 1.
-pub fn find_good(area: &[u8], number: u64, key: &[u8]) -> Found
+pub fn find_good(area: &[u8], number: u64, key: &[u8]) -> Result<Option<Found>, Refusal>
     requires { valid area.now ≡ true }
     ensures { result ≡ found_in number key.now (decode area.now) }
 {
-    match table_read::node_span(area, number) {
-        Span::Held { start, end } => in_node(&area[start..end], start, key),
-        Span::Missing => Found::Refused(Refusal::NoNode),
-    }
+    let span = table_read::node_span(area, number).ok_or(Refusal::NoNode)?;
+    in_node(&area[span.start..span.end], span.start, key)
 }
 
 // Where the value of the key stands in what a party sees of the area of a good table of this profile: 2, 1, 19.
-fn find_as(area: &[u8], profile: Profile, party: Party, number: u64, key: &[u8]) -> Found
+fn find_as(
+    area: &[u8],
+    profile: Profile,
+    party: Party,
+    number: u64,
+    key: &[u8],
+) -> Result<Option<Found>, Refusal>
     requires { (valid area.now ≡ true) × (profile_obeys profile (decode area.now) ≡ true) }
     ensures { result ≡ find_as profile party number key.now (decode area.now) }
 {
-    match table_read::node_span(area, number) {
-        Span::Held { start, end } => in_sight(&area[start..end], start, profile, party, key),
-        Span::Missing => Found::Refused(Refusal::NoNode),
-    }
+    let span = table_read::node_span(area, number).ok_or(Refusal::NoNode)?;
+    in_sight(&area[span.start..span.end], span.start, profile, party, key)
 }
 
 // Where the value of the key stands in what a party sees of a good table: 2, 1, 19.
-pub fn find_known(table: &[u8], party: Party, number: u64, key: &[u8]) -> Found
+pub fn find_known(
+    table: &[u8],
+    party: Party,
+    number: u64,
+    key: &[u8],
+) -> Result<Option<Found>, Refusal>
     requires { valid_whole table.now ≡ true }
     ensures { result ≡ find_as (decode_whole table.now).kind.profile party number key.now (decode (area_of table.now)) }
 {
@@ -117,25 +121,24 @@ pub fn find_known(table: &[u8], party: Party, number: u64, key: &[u8]) -> Found
 }
 
 // Where the value of the key stands in what a party sees of lent bytes: 14, 2, 1, 19.
-pub fn find(table: &[u8], party: Party, number: u64, key: &[u8]) -> Found
+pub fn find(table: &[u8], party: Party, number: u64, key: &[u8]) -> Result<Option<Found>, Refusal>
     ensures { Says found_told (lent_find party number key.now table.now) result }
 {
-    if table_check::check_table(table) {
-        find_known(table, party, number, key)
-    } else {
-        Found::Refused(Refusal::BadTable)
+    if !table_check::check_table(table) {
+        return Err(Refusal::BadTable);
     }
+    find_known(table, party, number, key)
 }
 
 // The part of the slice that was found, and where nothing was, the empty part at its front.
-pub fn held(table: &[u8], found: Found) -> &[u8]
+pub fn held(table: &[u8], found: Result<Option<Found>, Refusal>) -> &[u8]
     requires { Within (length table.now) found }
     ensures { Hands (part_of table.now found) table.entry.ref_ptr result.now result.ref_ptr }
 {
     match found {
-        Found::At { start, len } => &table[start..start + len],
-        Found::Nothing => &table[..0],
-        Found::Refused(_) => &table[..0],
+        Ok(Some(Found { start, len })) => &table[start..start + len],
+        Ok(None) => &table[..0],
+        Err(_) => &table[..0],
     }
 }
 
@@ -145,11 +148,10 @@ pub fn lookup_known<'a>(table: &'a [u8], party: Party, number: u64, key: &[u8]) 
     ensures { Hands (value_part (decode_whole table.now).kind.profile party number key.now (decode (area_of table.now)))
         table.entry.ref_ptr result.now result.ref_ptr }
 {
-    if party_form::may_name(profile_check::profile_of(table), party, key) {
-        held(table, find_good(&table[..layout::AREA], number, key))
-    } else {
-        &table[..0]
+    if !party_form::may_name(profile_check::profile_of(table), party, key) {
+        return &table[..0];
     }
+    held(table, find_good(&table[..layout::AREA], number, key))
 }
 
 // The value of the key as those very bytes of the lent table; where a party finds none or the call is refused, the empty part at the table's front. `find`
@@ -157,9 +159,8 @@ pub fn lookup_known<'a>(table: &'a [u8], party: Party, number: u64, key: &[u8]) 
 pub fn lookup<'a>(table: &'a [u8], party: Party, number: u64, key: &[u8]) -> &'a [u8]
     ensures { Hands (lent_value_part party number key.now table.now) table.entry.ref_ptr result.now result.ref_ptr }
 {
-    if table_check::check_table(table) {
-        lookup_known(table, party, number, key)
-    } else {
-        &table[..0]
+    if !table_check::check_table(table) {
+        return &table[..0];
     }
+    lookup_known(table, party, number, key)
 }

@@ -5,9 +5,8 @@ use anyhow::Result;
 
 fn main(rt: HostRuntime) -> Result<()> {
     let mut delta = [0u8; delta_put::ROOM];
-    let taken = delta_put::take_all(&mut rt.stdin(), &mut delta)?;
-    if taken.ended {
-        delta_put::put(&mut rt.stdout(), taken.making, &delta)?;
+    if let Some(making) = delta_put::take_all(&mut rt.stdin(), &mut delta)? {
+        delta_put::put(&mut rt.stdout(), making, &delta)?;
     }
     Ok(())
 }

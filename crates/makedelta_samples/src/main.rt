@@ -13,11 +13,11 @@ fn replay<R: Files, W: Write>(rt: &R, out: &mut W, name: &str) -> Result<bool> {
     streams::put(out, name.as_bytes())?;
     streams::put(out, b"\n")?;
     let mut delta = [0u8; delta_put::ROOM];
-    let taken = delta_put::take_all(&mut file, &mut delta)?;
-    if taken.ended {
-        delta_put::show(out, taken.making, &delta)?;
-    }
-    Ok(taken.ended)
+    let Some(making) = delta_put::take_all(&mut file, &mut delta)? else {
+        return Ok(false);
+    };
+    delta_put::show(out, making, &delta)?;
+    Ok(true)
 }
 
 fn main(rt: HostRuntime) -> Result<()> {

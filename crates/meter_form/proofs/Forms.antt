@@ -1,38 +1,34 @@
 -- Bytes that all pass a test, of which i are passed; digits, and the number that they state. Assumes nothing.
-use Prim.Native.Nat.{ℕ, zero, suc, ◌+◌, ◌*◌, ◌-◌, ◌≤◌, ◌<◌, ◌/◌, ◌%◌, ◌^◌}
+use Prim.Native.Nat.{ℕ, zero, suc, ◌+◌, ◌*◌, ◌-◌, ◌≤◌, ◌<◌}
 use mathlib.Core.Path.{◌≡◌, ◌∙◌, ap, refl, sym}
-use mathlib.Core.Bool.{Bool, true, false, ◌&&◌}
+use mathlib.Core.Bool.{Bool, true, ◌&&◌}
 use mathlib.Core.List.{List, [], ◌∷◌}
-use native.Mathlib.Nat.{mod-eq_of_lt}
 use native.Mathlib.Numerals.{add-one}
 use native.Mathlib.Omega.{arith}
-use lib.Dec.{leb, eqb}
+use lib.Dec.{leb}
 use lib.ListN.{length, drop, get_or, drop_of_length-le}
 use lib.Seq.{drop-cons}
-use borrow.Author.Tests.{leb-true, le-leb, lt-leb, eq-eqb, ne_eqb}
+use borrow.Author.Tests.{leb-true, ne_eqb}
+use Rattle.std.specs.List.{list_all}
 use Rattle.fields.specs.Choice.{pick, all}
-use Rattle.fields.proofs.Choice.{and_left, and_no, and_right, and_yes}
+use Rattle.fields.proofs.Choice.{and_left, and_right}
 use Rattle.rules.specs.Node.{scheduled}
-use Rattle.rules.specs.Profile.{is_digit, is_key_byte, max_digits, meter_key, meter_value, numeral}
+use Rattle.rules.specs.Profile.{is_digit, max_digits, meter_value, numeral}
 use Rattle.rules.specs.declared.Status.{Status}
 
 -- ---- all bytes
 
-module _ (p : ℕ → Bool) (l : List ℕ) (i : ℕ) where
-  pub all_none : length l ≤ i → all p (drop i l) ≡ true
-  unfolding all
-  all_none h = ap (all p) (drop_of_length-le l h)
+-- all, as the library says it
+pub list_all-all : (p : ℕ → Bool) (l : List ℕ) → list_all p l ≡ all p l
+unfolding all
+list_all-all p [] = refl
+list_all-all p (b ∷ l) = ap (λ (t : Bool). p b && t) (list_all-all p l)
 
+module _ (p : ℕ → Bool) (l : List ℕ) (i : ℕ) where
   module _ (h : i < length l) where
     first : all p (drop i l) ≡ (p (get_or l i 0) && all p (drop (i + 1) l))
     unfolding all
     first = ap (all p) (drop-cons l i 0 h) ∙ rw add-one refl
-
-    pub all-on : {t : Bool} → t ≡ p (get_or l i 0) → t ≡ true → all p (drop (i + 1) l) ≡ all p (drop i l)
-    all-on e q = sym (first ∙ and_yes (p (get_or l i 0)) (all p (drop (i + 1) l)) (sym e ∙ q))
-
-    pub all-stop : {t : Bool} → t ≡ p (get_or l i 0) → t ≡ false → all p (drop i l) ≡ false
-    all-stop e q = first ∙ and_no (p (get_or l i 0)) (all p (drop (i + 1) l)) (sym e ∙ q)
 
     pub all_here : all p (drop i l) ≡ true → (p (get_or l i 0) ≡ true) × (all p (drop (i + 1) l) ≡ true)
     all_here e = (and_left (p (get_or l i 0)) (all p (drop (i + 1) l)) (sym first ∙ e), and_right (p (get_or l i 0)) (all p (drop (i + 1) l)) (sym first ∙ e))
@@ -40,64 +36,13 @@ module _ (p : ℕ → Bool) (l : List ℕ) (i : ℕ) where
 -- ---- bytes
 
 module _ (b : ℕ) where
-  pub digit_low : b < 48 → false ≡ is_digit b
-  digit_low h = sym (and_no (leb 48 b) (leb b 57) (lt-leb 48 b h))
-
-  pub digit-high : 48 ≤ b → leb b 57 ≡ is_digit b
-  digit-high h = rw (le-leb 48 b h)
-
   pub digit-is : is_digit b ≡ true → (48 ≤ b) × (b ≤ 57)
   digit-is e = (leb-true 48 b (and_left (leb 48 b) (leb b 57) e), leb-true b 57 (and_right (leb 48 b) (leb b 57) e))
 
-  digit-far : 97 ≤ b → is_digit b ≡ false
-  digit-far h = rw (le-leb 48 b (omega arith), lt-leb b 57 (omega arith))
-
-  pub letter : 97 ≤ b → leb b 122 ≡ is_key_byte b
-  letter h = let d = digit-far h in let n : eqb b 46 ≡ false = ne_eqb b 46 (λ e. omega arith) in rw (le-leb 97 b h, d, n) (go (leb b 122))
-    where
-      go : (x : Bool) → x ≡ pick x true false
-      go true = refl
-      go false = refl
-
-  module _ (h : b < 97) where
-    below : is_key_byte b ≡ pick (is_digit b) true (eqb b 46)
-    below = ap (λ (x : Bool). pick x true (pick (is_digit b) true (eqb b 46))) (and_no (leb 97 b) (leb b 122) (lt-leb 97 b h))
-
-    pub digit-in : {t : Bool} → t ≡ is_digit b → t ≡ true → true ≡ is_key_byte b
-    digit-in e q = sym (below ∙ ap (λ (x : Bool). pick x true (eqb b 46)) (sym e ∙ q))
-
-    pub dot-in : {t : Bool} → t ≡ is_digit b → t ≡ false → eqb b 46 ≡ is_key_byte b
-    dot-in e q = sym (below ∙ ap (λ (x : Bool). pick x true (eqb b 46)) (sym e ∙ q))
+pub digit-here : (l : List ℕ) (i : ℕ) → i < length l → all is_digit (drop i l) ≡ true → (48 ≤ get_or l i 0) × (get_or l i 0 ≤ 57)
+digit-here l i h e = digit-is (get_or l i 0) (all_here is_digit l i h e).0
 
 -- ---- keys and values
-
-pub no_key : (l : List ℕ) → length l ≡ 0 → false ≡ meter_key l
-unfolding meter_key
-no_key l e = sym (and_no (leb 1 (length l)) (all is_key_byte l) (lt-leb 1 (length l) (omega arith)))
-
-pub some_key : (l : List ℕ) → (length l ≡ 0 → ⊥) → (t : Bool) → t ≡ all is_key_byte l → t ≡ meter_key l
-unfolding meter_key
-some_key l n t e = e ∙ sym (and_yes (leb 1 (length l)) (all is_key_byte l) (le-leb 1 (length l) (low (length l) n)))
-  where
-    low : (k : ℕ) → (k ≡ 0 → ⊥) → 1 ≤ k
-    low zero n = absurd (n refl)
-    low (suc k) n = omega arith
-
-module _ (st : Status) (l : List ℕ) where
-  pub empty-value : length l ≡ 0 → (t : Bool) → t ≡ scheduled st → t ≡ meter_value st l
-  unfolding meter_value
-  empty-value e t q = q ∙ sym (ap (λ (x : Bool). pick x (scheduled st) (leb (length l) max_digits && all is_digit l)) (eq-eqb (length l) 0 e))
-
-  module _ (n : length l ≡ 0 → ⊥) where
-    some-value : meter_value st l ≡ (leb (length l) max_digits && all is_digit l)
-    unfolding meter_value
-    some-value = ap (λ (x : Bool). pick x (scheduled st) (leb (length l) max_digits && all is_digit l)) (ne_eqb (length l) 0 n)
-
-    pub long-value : max_digits < length l → false ≡ meter_value st l
-    long-value h = sym (some-value ∙ and_no (leb (length l) max_digits) (all is_digit l) (lt-leb (length l) max_digits h))
-
-    pub digits_value : length l ≤ max_digits → (t : Bool) → t ≡ all is_digit l → t ≡ meter_value st l
-    digits_value h t e = e ∙ sym (some-value ∙ and_yes (leb (length l) max_digits) (all is_digit l) (le-leb (length l) max_digits h))
 
 -- a value in form: at most ten digits
 pub value-digits : (st : Status) (l : List ℕ) → meter_value st l ≡ true → (length l ≤ max_digits) × (all is_digit l ≡ true)
@@ -141,12 +86,6 @@ module _ (l : List ℕ) (n i : ℕ) (h : i < length l) where
 pub no_digit : (l : List ℕ) (n i : ℕ) → length l ≤ i → numeral n (drop i l) ≡ n
 unfolding numeral
 no_digit l n i h = ap (numeral n) (drop_of_length-le l h)
-
--- by two halves
-pub tenfold-is : (v low high : ℕ) → v < 1000000000 → low ≡ v % 65536 * 10 → high ≡ v / 65536 * 10 → low + high * 65536 % 2 ^ 64 ≡ v * 10
-tenfold-is v low high h p q =
-    let a : high * 65536 < 2 ^ 64 = omega arith in
-    rw (mod-eq_of_lt a) (omega arith)
 
 pub one-digit : 0 < tens 0
 unfolding tens

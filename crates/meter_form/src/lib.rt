@@ -34,36 +34,18 @@ fn is_key_byte(b: u8) -> bool
 }
 
 // Whether a key is in form: 1 or more of those.
+#[tactic(auto, unfolding(rules::specs::Profile::meter_key))]
 fn is_key(key: &[u8]) -> bool
     ensures { result ≡ meter_key key.now }
 {
-    if key.len() == 0 {
-        return false;
-    }
-    let mut i = 0;
-    while i < key.len() {
-        if is_key_byte(key[i]) {
-            i += 1;
-        } else {
-            return false;
-        }
-    }
-    true
+    !key.is_empty() && key.iter().all(|b| is_key_byte(*b))
 }
 
 // Whether all bytes are digits.
 fn all_digits(value: &[u8]) -> bool
     ensures { result ≡ all is_digit value.now }
 {
-    let mut i = 0;
-    while i < value.len() {
-        if is_digit(value[i]) {
-            i += 1;
-        } else {
-            return false;
-        }
-    }
-    true
+    value.iter().all(|b| is_digit(*b))
 }
 
 // Whether a record of this status may be empty: Delete and TTL.
@@ -78,6 +60,7 @@ fn may_be_empty(status: Status) -> bool
 }
 
 // Whether a value is in form: 1 to 10 digits, or empty under Delete or TTL.
+#[tactic(auto, unfolding(rules::specs::Profile::meter_value))]
 fn is_value(value: &[u8], status: Status) -> bool
     ensures { result ≡ meter_value status value.now }
 {
@@ -118,10 +101,8 @@ pub fn number_of(digits: &[u8]) -> u64
     ensures { result ≡ numeral 0 digits.now }
 {
     let mut n: u64 = 0;
-    let mut i: usize = 0;
-    while i < digits.len() {
-        n = tenfold(n) + ((digits[i] - 48) as u64);
-        i += 1;
+    for digit in digits {
+        n = tenfold(n) + ((*digit - 48) as u64);
     }
     n
 }

@@ -19,7 +19,8 @@ use Rattle.rules.specs.Local.{add, gives, remove_node}
 use Rattle.rules.specs.Node.{fresh}
 use Rattle.rules.specs.Sizes.{max_nodes}
 use Rattle.rules.specs.Table.{Table, add_node, among, drop_node, node_of, numbers_of}
-use Rattle.rules.specs.declared.Answer.TheVariants.{Done, Refused}
+use Rattle.std.specs.Prelude.{Err}
+use Rattle.rules.specs.Results.{done}
 use Rattle.rules.specs.declared.Refusal.TheVariants.{NinthNode, NoNode}
 use Rattle.demand3.proofs.EachNode.{node_at, or_fresh}
 
@@ -65,7 +66,7 @@ pub node-added : (i j : ℕ) (t : Table) → node_at i (add j t).table ≡ node_
 unfolding add
 node-added i j t = go (among j (numbers_of t)) refl (ltb (length t) max_nodes)
   where
-    go : (b : Bool) → among j (numbers_of t) ≡ b → (c : Bool) → node_at i (pick b (gives Done t) (pick c (gives Done (add_node j t)) (gives (Refused NinthNode) t))).table ≡ node_at i t
+    go : (b : Bool) → among j (numbers_of t) ≡ b → (c : Bool) → node_at i (pick b (gives done t) (pick c (gives done (add_node j t)) (gives (Err NinthNode) t))).table ≡ node_at i t
     go true e c = refl
     go false e true = added i j t e
     go false e false = refl
@@ -107,7 +108,7 @@ node-dropped i j t asc = go (among j (numbers_of t))
     at true q = let e = eqb-true i j q in inr (e, ap (λ (k : ℕ). node_at k (drop_node j t)) e ∙ ap or_fresh (drop-same j t asc))
     at false q = inl (ap or_fresh (drop-other i j t q))
 
-    go : (b : Bool) → Out (pick b (gives Done (drop_node j t)) (gives (Refused NoNode) t)).table
+    go : (b : Bool) → Out (pick b (gives done (drop_node j t)) (gives (Err NoNode) t)).table
     go true = at (eqb i j) refl
     go false = inl refl
 

@@ -24,11 +24,9 @@ use Rattle.rules.specs.Node.{Call, KeyValue}
 use Rattle.rules.specs.Profile.{Kind, profile_obeys}
 use Rattle.rules.specs.Table.{Table, node_of, numbers_of, obeys}
 use Rattle.rules.specs.Whole.{Whole, decode_whole, encode_whole, obeys_whole, valid_whole, with_table}
-use Rattle.rules.specs.declared.Answer.TheVariants as plain
-use Rattle.rules.specs.declared.Applied.TheVariants as applied
-use Rattle.rules.specs.declared.Computed.{Computed}
-use Rattle.rules.specs.declared.Computed.TheVariants as computed
-use Rattle.rules.specs.declared.Offered.TheVariants as offered
+use Rattle.std.specs.Prelude.{Err, Result}
+use Rattle.rules.specs.declared.Sent.{Sent}
+use Rattle.rules.specs.Results.{done}
 use Rattle.rules.specs.declared.Party.{Party}
 use Rattle.rules.specs.declared.Profile.{Profile}
 use Rattle.rules.specs.declared.Refusal.{Refusal}
@@ -108,7 +106,7 @@ module _ (m : Kind) (b : List ℕ) (i : In m b) where
   -- computing in any order
   pub computed-lent : (edition : ℕ) (digest excluded : List ℕ) (order : Order) (mtu place : ℕ) (d : List ℕ) → lent_compute_by edition excluded order mtu place digest d b ≡ compute_by edition excluded order mtu place digest t d
   computed-lent edition digest excluded order mtu place d =
-      lent-computing edition excluded order mtu place digest d b ∙ from-table (given (computed.Refused BadTable) d) (λ u. compute_by edition excluded order mtu place digest u d)
+      lent-computing edition excluded order mtu place digest d b ∙ from-table (given (Err BadTable) d) (λ u. compute_by edition excluded order mtu place digest u d)
 
   on-apply : (delta : List ℕ) (now : ℕ) (answers : List ℕ) → obeys (apply (ways_in m) delta now t answers).table ≡ true → Holds m (apply (ways_in m) delta now t answers).table (lent_apply delta now answers b).lent.table
   on-apply delta now answers o =
@@ -125,7 +123,7 @@ module _ (m : Kind) (b : List ℕ) (i : In m b) where
   taken now answers (DeltaSent d) o = on-apply d now answers o
 
   -- a delta that its profile reads is refused for answer places alone
-  places-alone : (d : List ℕ) → IsRead m.profile d → (now : ℕ) (answers : List ℕ) (why : Refusal) (at : ℕ) → (lent_apply d now answers b).answer ≡ applied.Refused why at → why ≡ NoPlace
+  places-alone : (d : List ℕ) → IsRead m.profile d → (now : ℕ) (answers : List ℕ) (why : Refusal) (at : ℕ) → (lent_apply d now answers b).answer ≡ (Err (record { why = why; at = at })) → why ≡ NoPlace
   places-alone d read now answers why at e =
       let a : (lent_apply d now answers b).answer ≡ (apply (ways_in m) d now t answers).answer =
       these (lent_apply d now answers) _ (λ g. g.answer ≡ (apply (ways_in m) d now t answers).answer) (apply-whole w ok d now answers) (ap (λ (k : Kind). (apply (ways_in k) d now t answers).answer) i.kind_is) in
@@ -189,7 +187,7 @@ module _ (owner : ℕ → ℕ) (kinds : ℕ → Kind) where
           hubs = g.hubs;
           saved = g.saved;
           sent =
-              subst (λ (o : Given Computed (List ℕ)). (b : List ℕ) → b ∈ sent_after place o.lent o.answer l.sent → Read b) (sym (computed-lent (kinds x) (l.hubs x) (g.hubs x) edition digest excluded order mtu place d))
+              subst (λ (o : Given (Result Sent Refusal) (List ℕ)). (b : List ℕ) → b ∈ sent_after place o.lent o.answer l.sent → Read b) (sym (computed-lent (kinds x) (l.hubs x) (g.hubs x) edition digest excluded order mtu place d))
               (λ b m.
               by b
               (sent-read (kinds x).profile edition excluded order mtu place digest (net.hubs x) d l.sent _ (formed x)
@@ -212,7 +210,7 @@ module _ (owner : ℕ → ℕ) (kinds : ℕ → Kind) where
       abbrev bytes_as : Profile → LentNet
       bytes_as p =
           record {
-            hubs = λ y. pick (eqb y x) (on_table (plain.Refused BadTable) (call_as p who c i k) (l.hubs x)).lent (l.hubs y);
+            hubs = λ y. pick (eqb y x) (on_table (Err BadTable) (call_as p who c i k) (l.hubs x)).lent (l.hubs y);
             given = λ j. pick (eqb j i) (given_as p who k c (node_of i (net.hubs x)) (l.given j)) (l.given j);
             sent = l.sent;
             saved = l.saved;
@@ -225,22 +223,22 @@ module _ (owner : ℕ → ℕ) (kinds : ℕ → Kind) where
       writing o =
           subst (λ (a : Kind). Same (calls plan (Writing x i k who c) net) (bytes_as a.profile)) (sym (g.hubs x).kind_is)
           (on-hub _ x _ _
-          (on-table (kinds x) (l.hubs x) (g.hubs x) (plain.Refused BadTable) (call_as (kinds x).profile who c i k) o (call-formed (kinds x).profile who c i k (net.hubs x) (whole-table (decode_whole (l.hubs x)) (ok (kinds x) (l.hubs x) (g.hubs x))) (formed x)) (same_numbers (kinds x).profile)))
+          (on-table (kinds x) (l.hubs x) (g.hubs x) (Err BadTable) (call_as (kinds x).profile who c i k) o (call-formed (kinds x).profile who c i k (net.hubs x) (whole-table (decode_whole (l.hubs x)) (ok (kinds x) (l.hubs x) (g.hubs x))) (formed x)) (same_numbers (kinds x).profile)))
 
     calls-lent : (e : Event) → possible owner e net ≡ true → ((x : ℕ) → OkTable ((calls plan e net).hubs x)) → Same (calls plan e net) (lent_calls e l)
     unfolding add_whole remove_whole tables_of
     calls-lent (Writing x i k who c) p m = writing x i k who c (obeyed x _ m)
-    calls-lent (Beating x i) p m = on-hub _ x _ _ (on-table (kinds x) (l.hubs x) (g.hubs x) (plain.Refused BadTable) (local_beat i) (obeyed x _ m) (beat-formed (kinds x).profile i _ (formed x)) (numbers-beat i _))
-    calls-lent (Offering x i h) p m = on-hub _ x _ _ (on-table (kinds x) (l.hubs x) (g.hubs x) (offered.Refused BadTable) (offer i h) (obeyed x _ m) (offer-formed (kinds x).profile i h _ (formed x)) (numbers-offer i h _))
+    calls-lent (Beating x i) p m = on-hub _ x _ _ (on-table (kinds x) (l.hubs x) (g.hubs x) (Err BadTable) (local_beat i) (obeyed x _ m) (beat-formed (kinds x).profile i _ (formed x)) (numbers-beat i _))
+    calls-lent (Offering x i h) p m = on-hub _ x _ _ (on-table (kinds x) (l.hubs x) (g.hubs x) (Err BadTable) (offer i h) (obeyed x _ m) (offer-formed (kinds x).profile i h _ (formed x)) (numbers-offer i h _))
     calls-lent (Removing x removal) p m =
         on-hub _ x _ _
         (subst (Holds (kinds x) _) (sym (lent-removal removal (l.hubs x)))
-        (on-table (kinds x) (l.hubs x) (g.hubs x) (plain.Refused BadTable) (λ t. gives plain.Done (removed_by removal t)) (obeyed x _ m) (removal-formed (kinds x).profile removal _ (formed x)) (removed-numbers removal _)))
-    calls-lent (Adding x i) p m = on-hub _ x _ _ (on-the-whole (kinds x) (l.hubs x) (g.hubs x) (plain.Refused BadTable) (add_whole i) (add-keeps-whole _ (ok (kinds x) (l.hubs x) (g.hubs x)) i (ltb-true _ _ p)) refl)
-    calls-lent (Dropping x i) p m = on-hub _ x _ _ (on-the-whole (kinds x) (l.hubs x) (g.hubs x) (plain.Refused BadTable) (remove_whole i) (remove-keeps-whole _ (ok (kinds x) (l.hubs x) (g.hubs x)) i) refl)
+        (on-table (kinds x) (l.hubs x) (g.hubs x) (Err BadTable) (λ t. gives done (removed_by removal t)) (obeyed x _ m) (removal-formed (kinds x).profile removal _ (formed x)) (removed-numbers removal _)))
+    calls-lent (Adding x i) p m = on-hub _ x _ _ (on-the-whole (kinds x) (l.hubs x) (g.hubs x) (Err BadTable) (add_whole i) (add-keeps-whole _ (ok (kinds x) (l.hubs x) (g.hubs x)) i (ltb-true _ _ p)) refl)
+    calls-lent (Dropping x i) p m = on-hub _ x _ _ (on-the-whole (kinds x) (l.hubs x) (g.hubs x) (Err BadTable) (remove_whole i) (remove-keeps-whole _ (ok (kinds x) (l.hubs x) (g.hubs x)) i) refl)
     calls-lent (Computing x edition digest excluded order mtu place d) p m = (
       computed-good x edition digest excluded order mtu place d,
-      ap (λ (o : Given Computed (List ℕ)). record { hubs = net.hubs; given = l.given; sent = sent_after place o.lent o.answer l.sent; saved = net.saved })
+      ap (λ (o : Given (Result Sent Refusal) (List ℕ)). record { hubs = net.hubs; given = l.given; sent = sent_after place o.lent o.answer l.sent; saved = net.saved })
           (computed-lent (kinds x) (l.hubs x) (g.hubs x) edition digest excluded order mtu place d),
     )
     calls-lent (Arriving x k now answers) p m = on-hub _ x _ _ (taken (kinds x) (l.hubs x) (g.hubs x) now answers (arrives k l.sent) (obeyed x _ m))

@@ -24,7 +24,9 @@ use Rattle.rules.specs.Local.{add, call, call_as, call_on, remove_node}
 use Rattle.rules.specs.Node.{Call, Decision, Give, KeyValue, Leave, Node, Rec, Refuse, act, decide, due, fresh}
 use Rattle.rules.specs.Sizes.{numbers}
 use Rattle.rules.specs.Table.{Entry, Table, node_of, remove_all, set_node}
-use Rattle.rules.specs.declared.Computed.{Computed}
+use Rattle.std.specs.Prelude.{Result}
+use Rattle.rules.specs.declared.Refusal.{Refusal}
+use Rattle.rules.specs.declared.Sent.{Sent}
 use Rattle.rules.specs.declared.Party.{Party}
 use Rattle.rules.specs.declared.Profile.{Profile}
 use Rattle.demand3.proofs.Computing.{computed-honest}
@@ -300,7 +302,7 @@ module _ (owner : ℕ → ℕ) (w : Net) (ok : Moment owner w) where
       }
 
   module _ (x edition : ℕ) (digest excluded : List ℕ) (order : Order) (mtu place : ℕ) (l : List ℕ) where
-    moment-computing : (o : Given Computed (List ℕ)) → Comes edition excluded order mtu place digest (w.hubs x) l o → Moment owner (with_sent (sent_after place o.lent o.answer w.sent))
+    moment-computing : (o : Given (Result Sent Refusal) (List ℕ)) → Comes edition excluded order mtu place digest (w.hubs x) l o → Moment owner (with_sent (sent_after place o.lent o.answer w.sent))
     moment-computing o (refuses r) = ok
     moment-computing o (writes ds rest e made there) = subst (λ (b : List ℕ). Moment owner (with_sent (b ∷ w.sent))) (sym there) (moment-sending x _ made.sendable)
 

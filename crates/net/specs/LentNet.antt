@@ -11,7 +11,7 @@ use Rattle.rules.specs.Apply.{ways_in}
 use Rattle.rules.specs.Whole.{decode_whole, valid_whole}
 use Rattle.rules.specs.Lent.{lent_add, lent_remove_node, lent_call, lent_offer, lent_beat, lent_apply, lent_new}
 use Rattle.rules.specs.Profile.{Kind}
-use Rattle.rules.specs.declared.Applied.TheVariants as applied
+use Rattle.std.specs.Prelude.{Err}
 use Rattle.rules.specs.declared.Profile.{Profile}
 use Rattle.rules.specs.declared.Refusal.{Refusal}
 use Rattle.rules.specs.declared.Refusal.TheVariants.{NoPlace}
@@ -104,7 +104,7 @@ OneProfile kinds w = (p : Profile)
     → (k : Which) (b : Bytes)
     → arrives k w.sent ≡ DeltaSent b
     → (x now : ℕ) (answers : Bytes) (why : Refusal) (at : ℕ)
-    → (lent_apply b now answers (w.hubs x)).answer ≡ applied.Refused why at
+    → (lent_apply b now answers (w.hubs x)).answer ≡ (Err (record { why = why; at = at }))
     → why ≡ NoPlace
 
 -- every hub's bytes are a valid table (no call is answered 14) of the kind that it began with, and the tables are as claimed of a net

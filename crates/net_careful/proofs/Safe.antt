@@ -25,7 +25,9 @@ use Rattle.rules.specs.Given.{Given}
 use Rattle.rules.specs.Local.{call_as}
 use Rattle.rules.specs.Node.{Decision, Give, Leave, Node, Rec, Refuse, act, due, goes, last_gc_of, remove, scheduled, write}
 use Rattle.rules.specs.Table.{Table, node_of, remove_all}
-use Rattle.rules.specs.declared.Computed.{Computed}
+use Rattle.std.specs.Prelude.{Result}
+use Rattle.rules.specs.declared.Refusal.{Refusal}
+use Rattle.rules.specs.declared.Sent.{Sent}
 use Rattle.rules.specs.declared.DeltaStatus.{DeltaStatus}
 use Rattle.rules.specs.declared.DeltaStatus.TheVariants.{Apply, ApplyAfterReset, Fenced, Reject}
 use Rattle.rules.specs.declared.NodeAnswer.{NodeAnswer}
@@ -134,7 +136,7 @@ module _ (plan : Plan) (law : (x : ℕ) → Lawful (plan.ways x)) (ms : List ℕ
       go m (took r) = (let a = r.newer in omega arith, omega arith)
 
   -- what a hub computes has its own last_gc
-  computed-low : (x : ℕ) → x ∈ ms → (edition : ℕ) (digest excluded : List ℕ) (order : Order) (mtu place : ℕ) (l : List ℕ) (o : Given Computed (List ℕ)) → Comes edition excluded order mtu place digest (v.hubs x) l o
+  computed-low : (x : ℕ) → x ∈ ms → (edition : ℕ) (digest excluded : List ℕ) (order : Order) (mtu place : ℕ) (l : List ℕ) (o : Given (Result Sent Refusal) (List ℕ)) → Comes edition excluded order mtu place digest (v.hubs x) l o
       → (b : List ℕ) → b ∈ sent_after place o.lent o.answer v.sent → (i : ℕ) (d : NodeDelta) → part_at i (parts_in (read_delta b)) ≡ some d → (y : ℕ) → y ∈ ms → d.last_gc ≤ (node_at i (v.hubs y)).max
   unfolding node_delta
   computed-low x m edition digest excluded order mtu place l o (refuses r) b n = k.sent-low b n

@@ -20,7 +20,9 @@ use Rattle.rules.specs.Given.{Given}
 use Rattle.rules.specs.Sizes.{numbers}
 use Rattle.rules.specs.Node.{Node}
 use Rattle.rules.specs.Table.{Table, node_of, obeys}
-use Rattle.rules.specs.declared.Computed.{Computed}
+use Rattle.std.specs.Prelude.{Result}
+use Rattle.rules.specs.declared.Refusal.{Refusal}
+use Rattle.rules.specs.declared.Sent.{Sent}
 use Rattle.rules.specs.declared.Refusal.TheVariants.{BadEdition}
 use Rattle.rules.specs.declared.NodeAnswer.{NodeAnswer}
 use Rattle.rules.specs.declared.NodeAnswer.TheVariants as node
@@ -63,13 +65,13 @@ module _ (ways : Ways) (law : Lawful ways) (t₀ u t : Table) (t₀-ok : obeys t
   abbrev b : List ℕ
   b = delta_bytes ops_for
 
-  abbrev made : Given Computed (List ℕ)
+  abbrev made : Given (Result Sent Refusal) (List ℕ)
   made = compute_by q.edition [] q.order q.mtu q.place (digest_bytes q.edition told) u q.datagram
 
   pub sent_is : (ss : List (List ℕ)) → (sent_after q.place made.lent made.answer ss ≡ b ∷ ss) × Made [] q.order q.mtu told u
   sent_is ss = go _ (comes q.edition [] q.order q.mtu q.place (digest_bytes q.edition told) u q.datagram u-ok) wrote
     where
-      go : (o : Given Computed (List ℕ)) → Comes q.edition [] q.order q.mtu q.place (digest_bytes q.edition told) u q.datagram o → wrote_delta o.answer ≡ true → (sent_after q.place o.lent o.answer ss ≡ b ∷ ss) × Made [] q.order q.mtu told u
+      go : (o : Given (Result Sent Refusal) (List ℕ)) → Comes q.edition [] q.order q.mtu q.place (digest_bytes q.edition told) u q.datagram o → wrote_delta o.answer ≡ true → (sent_after q.place o.lent o.answer ss ≡ b ∷ ss) × Made [] q.order q.mtu told u
       go o (refuses r) g = absurd (false≢true g)
       go o (writes ds rest e k there) g =
           let twice : Entries ds rest ≡ Entries told [] = sym e ∙ read-written q.edition (read-edition q.edition _ ds rest e) [] t₀ t₀-ok in

@@ -23,7 +23,9 @@ use Rattle.rules.specs.Delta.{NodeDelta, Ops, delta_bytes, parts_of, read_delta}
 use Rattle.rules.specs.Given.{Given}
 use Rattle.rules.specs.Node.{Decision, Give, Leave, Node, Refuse, act, due, remove, with_heartbeat, write}
 use Rattle.rules.specs.Table.{Table, node_of}
-use Rattle.rules.specs.declared.Computed.{Computed}
+use Rattle.std.specs.Prelude.{Result}
+use Rattle.rules.specs.declared.Refusal.{Refusal}
+use Rattle.rules.specs.declared.Sent.{Sent}
 use Rattle.rules.specs.declared.Heartbeat.{Heartbeat}
 use Rattle.rules.specs.declared.NodeAnswer.TheVariants as node
 use Rattle.demand3.proofs.Forms.{Comes, comes, refuses, writes}
@@ -137,7 +139,7 @@ module _ (plan : Plan) (ready : Ready plan) (i : ℕ) where
     unfolding Rest
     as_before = (λ b m. inl m, λ x t m. inl m)
 
-    computed-low : (x edition : ℕ) (digest excluded : List ℕ) (order : Order) (mtu place : ℕ) (l : List ℕ) (o : Given Computed (List ℕ)) → Comes edition excluded order mtu place digest (w.hubs x) l o → (b : List ℕ) → b ∈ sent_after place o.lent o.answer w.sent → (b ∈ w.sent) ⊎ ((d : NodeDelta) → Part b d → d.last_gc ≤ gc_at w own)
+    computed-low : (x edition : ℕ) (digest excluded : List ℕ) (order : Order) (mtu place : ℕ) (l : List ℕ) (o : Given (Result Sent Refusal) (List ℕ)) → Comes edition excluded order mtu place digest (w.hubs x) l o → (b : List ℕ) → b ∈ sent_after place o.lent o.answer w.sent → (b ∈ w.sent) ⊎ ((d : NodeDelta) → Part b d → d.last_gc ≤ gc_at w own)
     unfolding node_delta
     computed-low x edition digest excluded order mtu place l o (refuses r) b m = inl m
     computed-low x edition digest excluded order mtu place l o (writes ds rest e made there) b m = at (in-cons m)

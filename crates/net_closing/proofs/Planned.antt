@@ -17,7 +17,9 @@ use Rattle.rules.specs.Given.{Given}
 use Rattle.rules.specs.Node.{Node}
 use Rattle.rules.specs.Sizes.{numbers}
 use Rattle.rules.specs.Table.{Table, node_of, obeys}
-use Rattle.rules.specs.declared.Computed.{Computed}
+use Rattle.std.specs.Prelude.{Result}
+use Rattle.rules.specs.declared.Refusal.{Refusal}
+use Rattle.rules.specs.declared.Sent.{Sent}
 use Rattle.plan.proofs.Comes as planner
 use Rattle.plan.proofs.Sent.{planned-some}
 use Rattle.plan.specs.Plan.{accepts, compute_plan, delta_by}
@@ -36,7 +38,7 @@ module _ (edition : ℕ) (nodes counts : List ℕ) (mtu place : ℕ) (l : List �
   accepted : wrote_delta (compute_plan edition [] nodes counts mtu place (digest_bytes edition (digest_of [] t)) u l).answer ≡ true → accepts [] nodes counts mtu (digest_of [] t) u ≡ true
   accepted = go _ (planner.plan-comes edition [] nodes counts mtu place (digest_bytes edition (digest_of [] t)) u l)
     where
-      go : (o : Given Computed (List ℕ)) → planner.PlanComes edition [] nodes counts mtu place (digest_bytes edition (digest_of [] t)) u l o → wrote_delta o.answer ≡ true → accepts [] nodes counts mtu (digest_of [] t) u ≡ true
+      go : (o : Given (Result Sent Refusal) (List ℕ)) → planner.PlanComes edition [] nodes counts mtu place (digest_bytes edition (digest_of [] t)) u l o → wrote_delta o.answer ≡ true → accepts [] nodes counts mtu (digest_of [] t) u ≡ true
       go o (planner.refuses r) g = absurd (false≢true g)
       go o (planner.writes ds rest e taken h k) g =
           let twice : Entries ds rest ≡ Entries (digest_of [] t) [] = sym e ∙ read-written edition (read-edition edition _ ds rest e) [] t t-ok in

@@ -22,7 +22,9 @@ use Rattle.rules.specs.Delta.{NodeDelta, Ops, delta_bytes, read_delta}
 use Rattle.rules.specs.Given.{Given}
 use Rattle.rules.specs.Node.{Decision, Give, Leave, Node, Rec, Refuse, act, due, last_gc_of, remove, with_heartbeat, write}
 use Rattle.rules.specs.Table.{Table, node_of}
-use Rattle.rules.specs.declared.Computed.{Computed}
+use Rattle.std.specs.Prelude.{Result}
+use Rattle.rules.specs.declared.Refusal.{Refusal}
+use Rattle.rules.specs.declared.Sent.{Sent}
 use Rattle.rules.specs.declared.Heartbeat.{Heartbeat}
 use Rattle.demand3.proofs.Forms.{Comes, comes, refuses, writes}
 use Rattle.demand3.specs.Forms.{Order, ops_by}
@@ -149,7 +151,7 @@ module _ (plan : Plan) (ready : Ready plan) (i : ℕ) (hears : (x y : ℕ) → T
         sender b (some y) f = λ d p. let a = f d p in let c = rises y in omega arith
 
     -- a delta is computed, or refused
-    computes : (x edition : ℕ) (digest excluded : List ℕ) (order : Order) (mtu place : ℕ) (l : List ℕ) (o : Given Computed (List ℕ)) → Comes edition excluded order mtu place digest (w.hubs x) l o → Static w.hubs (sent_after place o.lent o.answer w.sent) (pick (wrote_delta o.answer) (x ∷ s) s)
+    computes : (x edition : ℕ) (digest excluded : List ℕ) (order : Order) (mtu place : ℕ) (l : List ℕ) (o : Given (Result Sent Refusal) (List ℕ)) → Comes edition excluded order mtu place digest (w.hubs x) l o → Static w.hubs (sent_after place o.lent o.answer w.sent) (pick (wrote_delta o.answer) (x ∷ s) s)
     unfolding node_delta placed
     computes x edition digest excluded order mtu place l o (refuses r) = st
     computes x edition digest excluded order mtu place l o (writes ds rest e made there) = record { chains = st.chains; from = at }

@@ -13,8 +13,8 @@ use Rattle.fields.specs.Order.{same_bytes}
 use Rattle.rules.specs.Sizes.{max_nodes, top}
 use Rattle.rules.specs.Node.{Node, Rec, Call, fresh, remove, act, decide, due, beats, offer_of, with_heartbeat}
 use Rattle.rules.specs.Profile.{guard_in}
-use Rattle.rules.specs.declared.Answer.{Answer}
-use Rattle.rules.specs.declared.Answer.TheVariants as plain
+use Rattle.std.specs.Prelude.{Err, Result}
+use Rattle.rules.specs.Results.{done}
 use Rattle.rules.specs.declared.Heartbeat.{Heartbeat}
 use Rattle.rules.specs.declared.Party.{Party}
 use Rattle.rules.specs.declared.Profile.{Profile}
@@ -122,8 +122,8 @@ module _ (own : ℕ → Bool) where
       mines none t = sym (twice t)
       mines (some n) t = go (ltb n.heartbeat.0 top)
         where
-          go : (b : Bool) → mine own (pick {X = Outcome Answer} b (gives plain.Done (set_node i (with_heartbeat (beats (n.heartbeat.0 + 1)) n) t)) (gives (plain.Refused Exhausted) t)).table
-              ≡ mine own (pick {X = Outcome Answer} b (gives plain.Done (set_node i (with_heartbeat (beats (n.heartbeat.0 + 1)) n) (mine own t))) (gives (plain.Refused Exhausted) (mine own t))).table
+          go : (b : Bool) → mine own (pick {X = Outcome (Result (Unit {0}) Refusal)} b (gives done (set_node i (with_heartbeat (beats (n.heartbeat.0 + 1)) n) t)) (gives (Err Exhausted) t)).table
+              ≡ mine own (pick {X = Outcome (Result (Unit {0}) Refusal)} b (gives done (set_node i (with_heartbeat (beats (n.heartbeat.0 + 1)) n) (mine own t))) (gives (Err Exhausted) (mine own t))).table
           go true = sym (set-mine i (with_heartbeat (beats (n.heartbeat.0 + 1)) n) t)
           go false = sym (twice t)
 
@@ -131,7 +131,7 @@ module _ (own : ℕ → Bool) where
       others none t h = refl
       others (some n) t h = go (ltb n.heartbeat.0 top)
         where
-          go : (b : Bool) → mine own (pick {X = Outcome Answer} b (gives plain.Done (set_node i (with_heartbeat (beats (n.heartbeat.0 + 1)) n) t)) (gives (plain.Refused Exhausted) t)).table ≡ mine own t
+          go : (b : Bool) → mine own (pick {X = Outcome (Result (Unit {0}) Refusal)} b (gives done (set_node i (with_heartbeat (beats (n.heartbeat.0 + 1)) n) t)) (gives (Err Exhausted) t)).table ≡ mine own t
           go true = set_other i (with_heartbeat (beats (n.heartbeat.0 + 1)) n) t h
           go false = refl
 
@@ -178,11 +178,11 @@ module _ (own : ℕ → Bool) where
   unfolding add
   sees-add i t =
       go (among i (numbers_of t)) (ltb (length t) max_nodes)
-      ∙ ap₂ (λ (b c : Bool). mine own (pick {X = Outcome Answer} b (gives plain.Done (mine own t)) (pick c (gives plain.Done (add_node i (mine own t))) (gives (plain.Refused NinthNode) (mine own t)))).table)
+      ∙ ap₂ (λ (b c : Bool). mine own (pick {X = Outcome (Result (Unit {0}) Refusal)} b (gives done (mine own t)) (pick c (gives done (add_node i (mine own t))) (gives (Err NinthNode) (mine own t)))).table)
       (ap (among i) (sym (numbers-mine t))) (ap (λ (n : ℕ). ltb n max_nodes) (sym (length-mine t)))
     where
-      go : (b c : Bool) → mine own (pick {X = Outcome Answer} b (gives plain.Done t) (pick c (gives plain.Done (add_node i t)) (gives (plain.Refused NinthNode) t))).table
-          ≡ mine own (pick {X = Outcome Answer} b (gives plain.Done (mine own t)) (pick c (gives plain.Done (add_node i (mine own t))) (gives (plain.Refused NinthNode) (mine own t)))).table
+      go : (b c : Bool) → mine own (pick {X = Outcome (Result (Unit {0}) Refusal)} b (gives done t) (pick c (gives done (add_node i t)) (gives (Err NinthNode) t))).table
+          ≡ mine own (pick {X = Outcome (Result (Unit {0}) Refusal)} b (gives done (mine own t)) (pick c (gives done (add_node i (mine own t))) (gives (Err NinthNode) (mine own t)))).table
       go true c = sym (twice t)
       go false true = sees-adding i t
       go false false = sym (twice t)
@@ -205,9 +205,9 @@ module _ (own : ℕ → Bool) where
   unfolding remove_node
   sees-drop i t =
       go (among i (numbers_of t))
-      ∙ ap (λ (b : Bool). mine own (pick {X = Outcome Answer} b (gives plain.Done (drop_node i (mine own t))) (gives (plain.Refused NoNode) (mine own t))).table) (ap (among i) (sym (numbers-mine t)))
+      ∙ ap (λ (b : Bool). mine own (pick {X = Outcome (Result (Unit {0}) Refusal)} b (gives done (drop_node i (mine own t))) (gives (Err NoNode) (mine own t))).table) (ap (among i) (sym (numbers-mine t)))
     where
-      go : (b : Bool) → mine own (pick {X = Outcome Answer} b (gives plain.Done (drop_node i t)) (gives (plain.Refused NoNode) t)).table ≡ mine own (pick {X = Outcome Answer} b (gives plain.Done (drop_node i (mine own t))) (gives (plain.Refused NoNode) (mine own t))).table
+      go : (b : Bool) → mine own (pick {X = Outcome (Result (Unit {0}) Refusal)} b (gives done (drop_node i t)) (gives (Err NoNode) t)).table ≡ mine own (pick {X = Outcome (Result (Unit {0}) Refusal)} b (gives done (drop_node i (mine own t))) (gives (Err NoNode) (mine own t))).table
       go true = sees-dropping i t
       go false = sym (twice t)
 

@@ -15,8 +15,8 @@ use Rattle.rules.specs.Apply.{ways_in}
 use Rattle.rules.specs.Given.{Given, given}
 use Rattle.rules.specs.Lent.{TableAndList, both, stored_apply}
 use Rattle.rules.specs.Whole.{Whole, with_table, decode_whole, obeys_whole, valid_whole}
-use Rattle.rules.specs.declared.Applied.{Applied}
-use Rattle.rules.specs.declared.Applied.TheVariants as applied
+use Rattle.std.specs.Prelude.{Err, Result}
+use Rattle.rules.specs.declared.DeltaFault.{DeltaFault}
 use Rattle.rules.specs.declared.Refusal.TheVariants.{BadTable}
 use Rattle.rules.proofs.Refusing.{whole-bytes}
 use Rattle.table.proofs.Wholes.{decode-encode-whole, whole-obeys}
@@ -137,13 +137,13 @@ lent-valid own b are now fits answers l v =
     let w : Whole = decode_whole l in
     let o : obeys_whole w ≡ true = whole-obeys l v in
     ap (λ (x : List ℕ). (decode_whole (lent_leaving own b now answers x).lent.table).table) (sym (whole-bytes l v))
-    ∙ ap (λ (g : Given Applied TableAndList). (decode_whole g.lent.table).table) (leaving-encoded own w o b now answers)
+    ∙ ap (λ (g : Given (Result ℕ DeltaFault) TableAndList). (decode_whole g.lent.table).table) (leaving-encoded own w o b now answers)
     ∙ ap (λ (u : Whole). u.table) (decode-encode-whole (with_table (apply_leaving own (ways_in w.kind) b now w.table answers).table w) (leaving-whole own w o b are now fits answers))
 
 lent-bad : (own b : List ℕ) (now : ℕ) (answers l : List ℕ) → valid_whole l ≡ false → (lent_leaving own b now answers l).lent.table ≡ l
 unfolding lent_leaving_as
 lent-bad own b now answers l e =
-    ap (λ (c : Bool). (pick c (stored_apply (decode_whole l) (apply_leaving own (ways_in (decode_whole l).kind) b now (decode_whole l).table answers)) (given (applied.Refused BadTable 0) (both l answers))).lent.table) e
+    ap (λ (c : Bool). (pick c (stored_apply (decode_whole l) (apply_leaving own (ways_in (decode_whole l).kind) b now (decode_whole l).table answers)) (given (Err (record { why = BadTable; at = 0 })) (both l answers))).lent.table) e
 
 module _ (owner : ℕ → ℕ) (i : ℕ) where
   lent-stays : (b : List ℕ) (now : ℕ) → AreBytes b → now < numbers → (answers l : List ℕ)

@@ -24,7 +24,9 @@ use Rattle.rules.specs.Local.{call, call_as, call_on}
 use Rattle.rules.specs.Node.{Call, Decision, Give, KeyValue, Leave, Node, Refuse, act, decide, fresh}
 use Rattle.rules.specs.Sizes.{numbers}
 use Rattle.rules.specs.Table.{Entry, Table, node_of, set_node}
-use Rattle.rules.specs.declared.Computed.{Computed}
+use Rattle.std.specs.Prelude.{Result}
+use Rattle.rules.specs.declared.Refusal.{Refusal}
+use Rattle.rules.specs.declared.Sent.{Sent}
 use Rattle.rules.specs.declared.Party.{Party}
 use Rattle.rules.specs.declared.Profile.{Profile}
 use Rattle.demand3.proofs.Computing.{computed-honest}
@@ -442,7 +444,7 @@ module _ (owner : ℕ → ℕ) (w : Losing) (ok : Firm owner w) where
           saved = λ y t m. let s = ok.saved y t m in (s.0, λ i q. grown-node (o i) (out i) (lets i) (node_at i t) (s.1 i q));
         }
 
-    pub firm-computing : (edition : ℕ) (digest excluded : List ℕ) (order : Order) (mtu place : ℕ) (l : List ℕ) (a : Given Computed (List ℕ)) → Comes edition excluded order mtu place digest (v.hubs x) l a → Sends (sent_after place a.lent a.answer v.sent)
+    pub firm-computing : (edition : ℕ) (digest excluded : List ℕ) (order : Order) (mtu place : ℕ) (l : List ℕ) (a : Given (Result Sent Refusal) (List ℕ)) → Comes edition excluded order mtu place digest (v.hubs x) l a → Sends (sent_after place a.lent a.answer v.sent)
     firm-computing edition digest excluded order mtu place l a (refuses r) = sends v.sent sent-so-far
     firm-computing edition digest excluded order mtu place l a (writes ds rest e made at_place) =
         subst (λ (b : List ℕ). Sends (b ∷ v.sent)) (sym at_place) (sends _ (one_more (Carries out) _ v.sent (carried _ made.sendable) sent-so-far))

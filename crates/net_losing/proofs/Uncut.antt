@@ -21,7 +21,9 @@ use Rattle.rules.specs.Given.{Given}
 use Rattle.rules.specs.Node.{Call, Decision, Give, KeyValue, Leave, Node, Refuse, act, decide}
 use Rattle.rules.specs.Table.{Table, node_of}
 use Rattle.rules.specs.Whole.{decode_whole}
-use Rattle.rules.specs.declared.Computed.{Computed}
+use Rattle.std.specs.Prelude.{Result}
+use Rattle.rules.specs.declared.Refusal.{Refusal}
+use Rattle.rules.specs.declared.Sent.{Sent}
 use Rattle.rules.specs.declared.Party.{Party}
 use Rattle.rules.specs.Profile.{Kind}
 use Rattle.demand3.proofs.EachNode.{node_at, or_fresh}
@@ -144,7 +146,7 @@ module _ (plan : Plan) (ready : Ready plan) (w : Net) (ok : Moment plan.owner w)
     abbrev Sends : List (List ℕ) → Type 0
     Sends s = Exacts (record { hubs = w.hubs; given = w.given; sent = s; saved = w.saved })
 
-    exacts-computing : (o : Given Computed (List ℕ)) → Comes edition excluded order mtu place digest (w.hubs x) l o → Sends (sent_after place o.lent o.answer w.sent)
+    exacts-computing : (o : Given (Result Sent Refusal) (List ℕ)) → Comes edition excluded order mtu place digest (w.hubs x) l o → Sends (sent_after place o.lent o.answer w.sent)
     exacts-computing o (refuses r) = y
     exacts-computing o (writes ds rest e made at_place) =
         subst (λ (b : List ℕ). Sends (b ∷ w.sent)) (sym at_place)

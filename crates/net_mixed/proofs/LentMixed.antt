@@ -8,7 +8,9 @@ use Rattle.fields.specs.Choice.{pick}
 use Rattle.rules.specs.Given.{Given}
 use Rattle.rules.specs.Sizes.{numbers}
 use Rattle.rules.specs.Profile.{Kind}
-use Rattle.rules.specs.declared.Computed.{Computed}
+use Rattle.std.specs.Prelude.{Result}
+use Rattle.rules.specs.declared.Refusal.{Refusal}
+use Rattle.rules.specs.declared.Sent.{Sent}
 use Rattle.demand3.specs.Forms.{compute_by, lent_compute_by}
 use Rattle.demand3.specs.World.{Exchange, after_delta, applied_to, cut_by, sent_after}
 use Rattle.net.proofs.LentNet.{Good, begin-lent, computed-good, computed-lent, happen-lent, obeyed, on-hub, one_profile, taken}
@@ -44,7 +46,7 @@ module _ (owner : ℕ → ℕ) (kinds : ℕ → Kind) (source : (hub node : ℕ)
       net : Net
       net = tables_in w.net
 
-      next : Given Computed (List ℕ) → Mixed
+      next : Given (Result Sent Refusal) (List ℕ) → Mixed
       next o =
           record {
             net = record { hubs = (tables_in w.net).hubs; given = w.net.given; sent = sent_after place o.lent o.answer w.net.sent; saved = (tables_in w.net).saved };

@@ -26,8 +26,9 @@ use Rattle.rules.specs.Given.{Given}
 use Rattle.rules.specs.Node.{Decision, Give, Leave, Node, Rec, Refuse, act, due, remove, with_heartbeat, write}
 use Rattle.rules.specs.Sizes.{numbers}
 use Rattle.rules.specs.Table.{Entry, Table, among, node_of}
-use Rattle.rules.specs.declared.Computed.{Computed}
-use Rattle.rules.specs.declared.Computed.TheVariants as computed
+use Rattle.std.specs.Prelude.{Err, Ok, Result}
+use Rattle.rules.specs.declared.Refusal.{Refusal}
+use Rattle.rules.specs.declared.Sent.{Sent}
 use Rattle.rules.specs.declared.Heartbeat.{Heartbeat}
 use Rattle.demand3.proofs.EachNode.{node_at, or_fresh, parts_in}
 use Rattle.demand3.proofs.Honest.{gc-within}
@@ -287,9 +288,9 @@ module _ (c : Cast) where
     fine-calls (Computing x edition digest excluded order mtu place l) q moment =
         fine_moved (calls c.plan (Computing x edition digest excluded order mtu place l) v) moment (λ y i. moved_same y i (node_at i (v.hubs y))) (λ b m. grows (compute_by edition excluded order mtu place digest (v.hubs x) l).answer b m) (λ y t m. inl m)
       where
-        grows : (a : Computed) (b : List ℕ) → b ∈ v.sent → b ∈ sent_after place (compute_by edition excluded order mtu place digest (v.hubs x) l).lent a v.sent
-        grows (computed.Delta ops bytes) b m = later m
-        grows (computed.Refused r) b m = m
+        grows : (a : (Result Sent Refusal)) (b : List ℕ) → b ∈ v.sent → b ∈ sent_after place (compute_by edition excluded order mtu place digest (v.hubs x) l).lent a v.sent
+        grows (Ok s) b m = later m
+        grows (Err r) b m = m
     fine-calls (Arriving x k now l) q moment = fine-arriving x k now l q moment
     fine-calls (Saving x) q moment = fine-saving x moment
     fine-calls (Restoring x k) q moment = fine-restored x k q moment
@@ -330,7 +331,7 @@ module _ (c : Cast) where
     -- ---- a plain hub asks
 
     module _ (x y edition : ℕ) (excluded : List ℕ) (order : Order) (mtu place : ℕ) (digest l : List ℕ) (free : may_ask c x y excluded (v.hubs y) ≡ true) where
-      abbrev Next : Given Computed (List ℕ) → Net
+      abbrev Next : Given (Result Sent Refusal) (List ℕ) → Net
       Next o = record { hubs = v.hubs; given = v.given; sent = sent_after place o.lent o.answer v.sent; saved = v.saved }
 
       -- of a node that x neither owns nor hears from y, nothing is computed
@@ -346,7 +347,7 @@ module _ (c : Cast) where
           go true q f = inl (eqb-true _ _ q)
           go false q f = inr (eqb-true _ _ f)
 
-      asked : (o : Given Computed (List ℕ)) → Comes edition excluded order mtu place digest (v.hubs y) l o → Moment owner (Next o) → Fine (record { net = Next o; flights = λ z. pick (eqb z x) (after_delta place o.lent o.answer (w.flights x)) (w.flights z) })
+      asked : (o : Given (Result Sent Refusal) (List ℕ)) → Comes edition excluded order mtu place digest (v.hubs y) l o → Moment owner (Next o) → Fine (record { net = Next o; flights = λ z. pick (eqb z x) (after_delta place o.lent o.answer (w.flights x)) (w.flights z) })
       unfolding node_delta
       asked o (refuses r) moment =
           fine-next v (λ z. pick (eqb z x) (w.flights x) (w.flights z)) ok.moment (λ y i s. omega arith) ok.leaf (λ z t m. inl m) (λ z p. fly z p (eqb z x) refl)

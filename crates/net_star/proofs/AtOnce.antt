@@ -13,7 +13,9 @@ use Rattle.rules.specs.Digest.{Entries, NodeDigest, digest_bytes, digest_of}
 use Rattle.rules.specs.Given.{Given}
 use Rattle.rules.specs.Sizes.{numbers}
 use Rattle.rules.specs.Table.{Entry, among}
-use Rattle.rules.specs.declared.Computed.{Computed}
+use Rattle.std.specs.Prelude.{Result}
+use Rattle.rules.specs.declared.Refusal.{Refusal}
+use Rattle.rules.specs.declared.Sent.{Sent}
 use Rattle.demand3.proofs.Forms.{Comes, comes, refuses, writes}
 use Rattle.demand3.specs.Demand3.{no_room, wrote_delta}
 use Rattle.demand3.specs.Forms.{compute_by, ops_by}
@@ -43,7 +45,7 @@ module _ (plan : Plan) (w : Net) (ok : Moment plan.owner w) (o x : ℕ) (q : Ask
   sent_is : sent_for q.edition (digest_bytes q.edition told) excluded q.order q.mtu q.place q.datagram (w.hubs o) w.sent ≡ bytes ∷ w.sent
   sent_is = go _ (comes q.edition excluded q.order q.mtu q.place (digest_bytes q.edition told) (w.hubs o) q.datagram (facts-table (w.hubs o) (ok.tables o).obeyed)) wrote
     where
-      go : (a : Given Computed (List ℕ)) → Comes q.edition excluded q.order q.mtu q.place (digest_bytes q.edition told) (w.hubs o) q.datagram a → wrote_delta a.answer ≡ true → sent_after q.place a.lent a.answer w.sent ≡ bytes ∷ w.sent
+      go : (a : Given (Result Sent Refusal) (List ℕ)) → Comes q.edition excluded q.order q.mtu q.place (digest_bytes q.edition told) (w.hubs o) q.datagram a → wrote_delta a.answer ≡ true → sent_after q.place a.lent a.answer w.sent ≡ bytes ∷ w.sent
       go a (refuses r) g = absurd (false≢true g)
       go a (writes ds rest e k there) g =
           let twice : Entries ds rest ≡ Entries told [] = sym e ∙ read-written q.edition (read-edition q.edition _ ds rest e) [] (w.hubs x) (facts-table (w.hubs x) (ok.tables x).obeyed) in

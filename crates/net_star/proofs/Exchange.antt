@@ -23,7 +23,9 @@ use Rattle.rules.specs.Given.{Given}
 use Rattle.rules.specs.Node.{Node}
 use Rattle.rules.specs.Sizes.{numbers}
 use Rattle.rules.specs.Table.{Entry, among, node_of, obeys}
-use Rattle.rules.specs.declared.Computed.{Computed}
+use Rattle.std.specs.Prelude.{Result}
+use Rattle.rules.specs.declared.Refusal.{Refusal}
+use Rattle.rules.specs.declared.Sent.{Sent}
 use Rattle.rules.specs.declared.NodeAnswer.{NodeAnswer}
 use Rattle.rules.specs.declared.NodeAnswer.TheVariants as node
 use Rattle.demand3.proofs.EachNode.{node_at, or_fresh}
@@ -72,7 +74,7 @@ module _ (plan : Plan) (ready : Ready plan) (o : ℕ) (p : ℕ → Node) (x : �
   made : Made excluded q.order q.mtu told (v.hubs o)
   made = go _ (comes q.edition excluded q.order q.mtu q.place (digest_bytes q.edition told) (v.hubs o) q.datagram (obeyed v kv o)) s.wrote
     where
-      go : (a : Given Computed (List ℕ)) → Comes q.edition excluded q.order q.mtu q.place (digest_bytes q.edition told) (v.hubs o) q.datagram a → wrote_delta a.answer ≡ true → Made excluded q.order q.mtu told (v.hubs o)
+      go : (a : Given (Result Sent Refusal) (List ℕ)) → Comes q.edition excluded q.order q.mtu q.place (digest_bytes q.edition told) (v.hubs o) q.datagram a → wrote_delta a.answer ≡ true → Made excluded q.order q.mtu told (v.hubs o)
       go a (refuses r) g = absurd (false≢true g)
       go a (writes ds rest e k there) g =
           let twice : Entries ds rest ≡ Entries told [] = sym e ∙ read-written q.edition (read-edition q.edition _ ds rest e) [] (u.hubs x) (obeyed u ku x) in

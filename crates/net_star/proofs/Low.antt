@@ -21,7 +21,9 @@ use Rattle.rules.specs.Delta.{NodeDelta, Ops, delta_bytes, parts_of, read_delta}
 use Rattle.rules.specs.Given.{Given}
 use Rattle.rules.specs.Node.{Decision, Give, Leave, Node, Refuse, act, remove, with_heartbeat, write}
 use Rattle.rules.specs.Table.{Entry, Table, among, node_of}
-use Rattle.rules.specs.declared.Computed.{Computed}
+use Rattle.std.specs.Prelude.{Result}
+use Rattle.rules.specs.declared.Refusal.{Refusal}
+use Rattle.rules.specs.declared.Sent.{Sent}
 use Rattle.rules.specs.declared.Heartbeat.{Heartbeat}
 use Rattle.demand3.proofs.EachNode.{node_at, parts_in}
 use Rattle.demand3.proofs.Forms.{Comes, comes, refuses, writes}
@@ -139,7 +141,7 @@ module _ (plan : Plan) (ready : Ready plan) (o : ℕ) where
               let d : among e.number excluded ≡ true = subst (λ (b : Bool). pick b (among e.number excluded) true ≡ true) (eq-eqb (plan.owner e.number) o mine) c in
               absurd (true≢false (sym d ∙ free))
 
-      computed-low : (edition : ℕ) (digest : List ℕ) (order : Order) (mtu place : ℕ) (l : List ℕ) (a : Given Computed (List ℕ)) → Comes edition excluded order mtu place digest (w.hubs x) l a → (b : List ℕ) → b ∈ sent_after place a.lent a.answer w.sent → (b ∈ w.sent) ⊎ ((i : ℕ) → Mine i → (d : NodeDelta) → PartOf b i d → d.last_gc ≤ gc_of w i)
+      computed-low : (edition : ℕ) (digest : List ℕ) (order : Order) (mtu place : ℕ) (l : List ℕ) (a : Given (Result Sent Refusal) (List ℕ)) → Comes edition excluded order mtu place digest (w.hubs x) l a → (b : List ℕ) → b ∈ sent_after place a.lent a.answer w.sent → (b ∈ w.sent) ⊎ ((i : ℕ) → Mine i → (d : NodeDelta) → PartOf b i d → d.last_gc ≤ gc_of w i)
       unfolding node_delta
       computed-low edition digest order mtu place l a (refuses r) b m = inl m
       computed-low edition digest order mtu place l a (writes ds rest e made there) b m = at (in-cons m)

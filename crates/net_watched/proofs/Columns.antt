@@ -18,8 +18,9 @@ use Rattle.rules.specs.Local.{Outcome, add, gives}
 use Rattle.rules.specs.Sizes.{max_nodes, numbers}
 use Rattle.rules.specs.Table.{Table, add_node, among, numbers_of, obeys, rising}
 use Rattle.rules.specs.Whole.{Whole, decode_whole, encode_whole, valid_whole}
-use Rattle.rules.specs.declared.Answer.{Answer}
-use Rattle.rules.specs.declared.Answer.TheVariants as plain
+use Rattle.std.specs.Prelude.{Err, Result}
+use Rattle.rules.specs.declared.Refusal.{Refusal}
+use Rattle.rules.specs.Results.{done}
 use Rattle.rules.specs.declared.Refusal.TheVariants.{BadTable, NinthNode}
 use Rattle.rules.proofs.Calls.{add-keeps}
 use Rattle.rules.proofs.Memories.{whole-table}
@@ -77,13 +78,13 @@ module _ (g t : Bytes) (v : valid_both g t ≡ true) (i : ℕ) (fits : i < numbe
       room : length (numbers_of w.table) < max_nodes
       room = omega (arith, numbers-long w.table, ltb-true (length w.table) max_nodes q)
 
-      added : add i w.table ≡ gives plain.Done (add_node i w.table)
-      added = ap₂ (λ (a b : Bool). pick a (gives plain.Done w.table) (pick b (gives plain.Done (add_node i w.table)) (gives (plain.Refused NinthNode) w.table))) p q
+      added : add i w.table ≡ gives done (add_node i w.table)
+      added = ap₂ (λ (a b : Bool). pick a (gives done w.table) (pick b (gives done (add_node i w.table)) (gives (Err NinthNode) w.table))) p q
 
       rise : rising (numbers_of (add_node i w.table)) ≡ true
       rise =
           (table-obeys (add_node i w.table)
-          (subst (λ (o : Outcome Answer). obeys o.table ≡ true) added (add-keeps i w.table fits (whole-table w (whole-obeys t (both-table g t v)))))).rise
+          (subst (λ (o : Outcome (Result (Unit {0}) Refusal)). obeys o.table ≡ true) added (add-keeps i w.table fits (whole-table w (whole-obeys t (both-table g t v)))))).rise
 
       is : add_column i x ≡ column_in (place_for i (columns x)) i x
       is = pick-false (among i (columns x)) x (column_in (place_for i (columns x)) i x) (ap (among i) same ∙ p)
@@ -101,11 +102,11 @@ module _ (g t : Bytes) (v : valid_both g t ≡ true) (i : ℕ) (fits : i < numbe
   pub joined : TellsLess (decode_grid (lent_column_in i g t).lent.grid) x
   unfolding lent_column_in add_whole add add_column
   joined =
-      subst (λ (b : Bool). TellsLess (decode_grid (pick b (given (add_whole i w).answer (both (grid_on (add_whole i w).answer (encode_grid (add_column i x)) g) (encode_whole (add_whole i w).lent))) (given (plain.Refused BadTable) (both g t))).lent.grid) x) (sym v)
+      subst (λ (b : Bool). TellsLess (decode_grid (pick b (given (add_whole i w).answer (both (grid_on (add_whole i w).answer (encode_grid (add_column i x)) g) (encode_whole (add_whole i w).lent))) (given (Err BadTable) (both g t))).lent.grid) x) (sym v)
       (go (among i (numbers_of w.table)) refl (ltb (length w.table) max_nodes) refl)
     where
-      out : (a b : Bool) → Outcome Answer
-      out a b = pick a (gives plain.Done w.table) (pick b (gives plain.Done (add_node i w.table)) (gives (plain.Refused NinthNode) w.table))
+      out : (a b : Bool) → Outcome (Result (Unit {0}) Refusal)
+      out a b = pick a (gives done w.table) (pick b (gives done (add_node i w.table)) (gives (Err NinthNode) w.table))
 
       here : TellsLess (decode_grid (encode_grid x)) x
       here = subst (λ (l : Bytes). TellsLess (decode_grid l) x) (sym (good-grid g (both-grid g t v)).is) (tells-same x)
@@ -120,5 +121,5 @@ module _ (g t : Bytes) (v : valid_both g t ≡ true) (i : ℕ) (fits : i < numbe
 pub joined-table : (g t : Bytes) → valid_both g t ≡ true → (i : ℕ) → (lent_column_in i g t).lent.table ≡ (lent_add i t).lent
 unfolding lent_column_in on_whole
 joined-table g t v i =
-    ap (λ (b : Bool). (pick b (given (add_whole i (decode_whole t)).answer (both (grid_on (add_whole i (decode_whole t)).answer (encode_grid (add_column i (decode_grid g))) g) (encode_whole (add_whole i (decode_whole t)).lent))) (given (plain.Refused BadTable) (both g t))).lent.table) v
-    ∙ sym (ap (λ (b : Bool). (pick b (given (add_whole i (decode_whole t)).answer (encode_whole (add_whole i (decode_whole t)).lent)) (given (plain.Refused BadTable) t)).lent) (both-table g t v))
+    ap (λ (b : Bool). (pick b (given (add_whole i (decode_whole t)).answer (both (grid_on (add_whole i (decode_whole t)).answer (encode_grid (add_column i (decode_grid g))) g) (encode_whole (add_whole i (decode_whole t)).lent))) (given (Err BadTable) (both g t))).lent.table) v
+    ∙ sym (ap (λ (b : Bool). (pick b (given (add_whole i (decode_whole t)).answer (encode_whole (add_whole i (decode_whole t)).lent)) (given (Err BadTable) t)).lent) (both-table g t v))

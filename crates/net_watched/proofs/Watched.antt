@@ -23,10 +23,10 @@ use Rattle.rules.specs.Profile.{Kind}
 use Rattle.rules.specs.Sizes.{numbers}
 use Rattle.rules.specs.Table.{Table, among, node_of, rising}
 use Rattle.rules.specs.Whole.{decode_whole}
-use Rattle.rules.specs.declared.Answer.TheVariants as plain
+use Rattle.std.specs.Prelude.{Err, Ok, Result}
+use Rattle.rules.specs.declared.Refusal.{Refusal}
+use Rattle.rules.specs.Results.{done}
 use Rattle.rules.specs.declared.Refusal.TheVariants.{BadEdition, BadPeer, BadTable, NoPlace}
-use Rattle.rules.specs.declared.Written.{Written}
-use Rattle.rules.specs.declared.Written.TheVariants as written
 use Rattle.rules.proofs.Digests.{read-written}
 use Rattle.profiles.proofs.Lawful.{kind-lawful}
 use Rattle.rules.proofs.Obeys.{OkTable, among_in, facts-table}
@@ -222,7 +222,7 @@ module _ (owner : ℕ → ℕ) (kinds : ℕ → Kind) (peer : ℕ → ℕ → �
                   omega arith
 
           go : (b : Bool) → valid_grid bytes ≡ b → (c : Bool) → ltb p max_peers ≡ c → (r : DigestRead) → r ≡ Entries (digest_of o.left_out o.had) []
-              → Fine (pick b (pick c (tell_on p r bytes) (given (plain.Refused BadPeer) bytes)) (given (plain.Refused BadTable) bytes)).lent
+              → Fine (pick b (pick c (tell_on p r bytes) (given (Err BadPeer) bytes)) (given (Err BadTable) bytes)).lent
           go true e true f r q = subst (λ (k : DigestRead). Fine (tell_on p k bytes).lent) (sym q) (at e (ltb-true p max_peers f))
           go true e false f r q = stays
           go false e c f r q = stays
@@ -256,7 +256,7 @@ module _ (owner : ℕ → ℕ) (kinds : ℕ → Kind) (peer : ℕ → ℕ → �
                   omega arith
 
           go : (b : Bool) → valid_grid bytes ≡ b → (c : Bool) → ltb p max_peers ≡ c
-              → Fine (pick b (pick c (given plain.Done (encode_grid (take_out p g))) (given (plain.Refused BadPeer) bytes)) (given (plain.Refused BadTable) bytes)).lent
+              → Fine (pick b (pick c (given done (encode_grid (take_out p g))) (given (Err BadPeer) bytes)) (given (Err BadTable) bytes)).lent
           go true e true f = at e (ltb-true p max_peers f)
           go true e false f = stays
           go false e c f = stays
@@ -307,11 +307,11 @@ module _ (owner : ℕ → ℕ) (kinds : ℕ → Kind) (peer : ℕ → ℕ → �
       unfolding write_digest
       kept = go (is_edition edition) refl (fits_at place (length (digest_bytes edition (digest_of excluded t))) d) refl
         where
-          out : (a b : Bool) → Given Written Bytes
+          out : (a b : Bool) → Given (Result ℕ Refusal) Bytes
           out a b =
               pick a
-              (pick b (given (written.Bytes (length (digest_bytes edition (digest_of excluded t)))) (put place (digest_bytes edition (digest_of excluded t)) d)) (given (written.Refused NoPlace) d))
-              (given (written.Refused BadEdition) d)
+              (pick b (given (Ok (length (digest_bytes edition (digest_of excluded t)))) (put place (digest_bytes edition (digest_of excluded t)) d)) (given (Err NoPlace) d))
+              (given (Err BadEdition) d)
 
           go : (a : Bool) → is_edition edition ≡ a → (b : Bool) → fits_at place (length (digest_bytes edition (digest_of excluded t))) d ≡ b
               → AllOf (kept_wrote owner peer ms edition place (out a b).lent (out a b).answer (w.wrote x))
@@ -326,11 +326,11 @@ module _ (owner : ℕ → ℕ) (kinds : ℕ → Kind) (peer : ℕ → ℕ → �
       lent_is : lent_digest edition excluded place d (w.net.hubs x) ≡ write_digest edition excluded place t d
       unfolding from_table
       lent_is =
-          ap (λ (b : Bool). pick b (write_digest edition excluded place (decode_whole (w.net.hubs x)).table d) (given (written.Refused BadTable) d)) (n.same.0.hubs x).valid
+          ap (λ (b : Bool). pick b (write_digest edition excluded place (decode_whole (w.net.hubs x)).table d) (given (Err BadTable) d)) (n.same.0.hubs x).valid
           ∙ ap (λ (u : Net). write_digest edition excluded place (u.hubs x) d) n.same.1
 
       digested : AllOf (kept_wrote owner peer ms edition place (lent_digest edition excluded place d (w.net.hubs x)).lent (lent_digest edition excluded place d (w.net.hubs x)).answer (w.wrote x))
-      digested = subst (λ (o : Given Written Bytes). AllOf (kept_wrote owner peer ms edition place o.lent o.answer (w.wrote x))) (sym lent_is) kept
+      digested = subst (λ (o : Given (Result ℕ Refusal) Bytes). AllOf (kept_wrote owner peer ms edition place o.lent o.answer (w.wrote x))) (sym lent_is) kept
 
     wrote : (a : Act) (y : ℕ) (d : Wrote) → d ∈ wrote_after owner peer ms a w y → WroteOf y v d
     wrote (Happening e) y d m = n.digests y d m

@@ -15,8 +15,8 @@ use Rattle.rules.specs.Delta.{Op, Good, Part, parts_of, read_delta}
 use Rattle.rules.specs.Apply.{apply_node, ways_in}
 use Rattle.rules.specs.Lent.{lent_digest}
 use Rattle.rules.specs.declared.NodeAnswer.TheVariants as node
-use Rattle.rules.specs.declared.Written.{Written}
-use Rattle.rules.specs.declared.Written.TheVariants as written
+use Rattle.std.specs.Prelude.{Err, Ok, Result}
+use Rattle.rules.specs.declared.Refusal.{Refusal}
 use Rattle.grid.specs.Grid.{Grid, new_grid}
 use Rattle.grid.specs.GridLayout.{encode_grid, decode_grid}
 use Rattle.grid.specs.LentGrid.{lent_column_in, lent_take_out, lent_tell, valid_both}
@@ -117,9 +117,9 @@ module _ (owner : ℕ → ℕ) (peer : ℕ → ℕ → ℕ) (ms : List ℕ) wher
   grids_after (Clearing x now grace) w = w.grids
 
   -- a digest is kept once it is written
-  abbrev pub kept_wrote : (edition place : ℕ) (datagram : Bytes) (answer : Written) (before : List Wrote) → List Wrote
-  kept_wrote edition place d (written.Bytes n) ws = record { edition = edition; bytes = part place n d } ∷ ws
-  kept_wrote edition place d (written.Refused r) ws = ws
+  abbrev pub kept_wrote : (edition place : ℕ) (datagram : Bytes) (answer : (Result ℕ Refusal)) (before : List Wrote) → List Wrote
+  kept_wrote edition place d (Ok n) ws = record { edition = edition; bytes = part place n d } ∷ ws
+  kept_wrote edition place d (Err r) ws = ws
 
   abbrev pub wrote_after : (act : Act) (watch : Watch) → ℕ → List Wrote
   wrote_after (Happening e) w = w.wrote

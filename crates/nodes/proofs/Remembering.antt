@@ -18,14 +18,13 @@ use Rattle.rules.specs.Memory.{Memory, forget, heartbeat_of, remember}
 use Rattle.rules.specs.Layout.{table_width, decode, encode}
 use Rattle.rules.specs.Whole.{Whole, area_of, decode_memory, decode_tail, decode_whole, encode_tail, encode_whole, tail_of, tail_width, valid_whole, whole_width, with_memory, with_table}
 use Rattle.rules.specs.Lent.{add_whole, forget_on, lent_removed, remember_on, remembered_as, remove_whole, stored}
-use Rattle.rules.specs.declared.Answer.{Answer}
-use Rattle.rules.specs.declared.Answer.TheVariants as plain
+use Rattle.std.specs.Prelude.{Option as Optional}
+use Rattle.std.specs.Prelude.{Err, Result}
+use Rattle.rules.specs.Results.{done}
 use Rattle.rules.specs.declared.Heartbeat.{Heartbeat}
 use Rattle.rules.specs.Profile.{Kind}
 use Rattle.rules.specs.declared.Refusal.{Refusal}
 use Rattle.rules.specs.declared.Refusal.TheVariants.{BadTable, NoNode}
-use Rattle.rules.specs.declared.Remembered.{Remembered}
-use Rattle.rules.specs.declared.Remembered.TheVariants as remembered
 use Rattle.rules.proofs.Memories.{OkMemory, add-whole-refused, remove-whole-refused, whole-memory}
 use Rattle.rules.proofs.Obeys.{among_in}
 use Rattle.rules.proofs.Refusing.{add-refused, remove-node-refused}
@@ -79,23 +78,23 @@ module _ (l : List ℕ) (v : valid_whole l ≡ true) (t : Table) (s : List ℕ) 
 
 -- ---- adding
 
-module _ (l : List ℕ) (v : valid_whole l ≡ true) (n : ℕ) (a : Answer) (s : List ℕ) (h : Gives (stored (add n (decode (area_of l)))) a s) where
-  abbrev added : Outcome Answer
+module _ (l : List ℕ) (v : valid_whole l ≡ true) (n : ℕ) (a : (Result (Unit {0}) Refusal)) (s : List ℕ) (h : Gives (stored (add n (decode (area_of l)))) a s) where
+  abbrev added : Outcome (Result (Unit {0}) Refusal)
   added = add n (decode_whole l).table
 
-  pub add_done : a ≡ plain.Done → (r : List ℕ) → r ≡ encode_whole (with_memory (forget n (decode_whole l).memory) (with_table added.table (decode_whole l)))
-      → Gives (stored_whole (add_whole n (decode_whole l))) plain.Done r
+  pub add_done : a ≡ done → (r : List ℕ) → r ≡ encode_whole (with_memory (forget n (decode_whole l).memory) (with_table added.table (decode_whole l)))
+      → Gives (stored_whole (add_whole n (decode_whole l))) done r
   unfolding add_whole
   add_done q r p =
-      let d : added.answer ≡ plain.Done = sym h.0 ∙ q in (
+      let d : added.answer ≡ done = sym h.0 ∙ q in (
         sym d,
-        p ∙ ap (λ (x : Answer). encode_whole (record { kind = (decode_whole l).kind; memory = forget_on x n (decode_whole l).memory; table = added.table })) (sym d),
+        p ∙ ap (λ (x : (Result (Unit {0}) Refusal)). encode_whole (record { kind = (decode_whole l).kind; memory = forget_on x n (decode_whole l).memory; table = added.table })) (sym d),
       )
 
-  pub add-not : (why : Refusal) → a ≡ plain.Refused why → Gives (stored_whole (add_whole n (decode_whole l))) (plain.Refused why) (s ++ drop table_width l)
+  pub add-not : (why : Refusal) → a ≡ Err why → Gives (stored_whole (add_whole n (decode_whole l))) (Err why) (s ++ drop table_width l)
   unfolding add_whole
   add-not why q =
-      let d : added.answer ≡ plain.Refused why = sym h.0 ∙ q in (
+      let d : added.answer ≡ Err why = sym h.0 ∙ q in (
         sym d,
         area-back l v added.table s h.1
             ∙ ap (λ (x : Table). encode_whole (with_table x (decode_whole l))) (add-refused n (decode_whole l).table why d)
@@ -105,7 +104,7 @@ module _ (l : List ℕ) (v : valid_whole l ≡ true) (n : ℕ) (a : Answer) (s :
 -- ---- removing
 
 -- one that goes was held
-remembers : (n : ℕ) (t : Table) (m : Memory) → (remove_node n t).answer ≡ plain.Done → remember n (beat_of (node_of n t)) m ≡ remember_on (node_of n t) n m
+remembers : (n : ℕ) (t : Table) (m : Memory) → (remove_node n t).answer ≡ done → remember n (beat_of (node_of n t)) m ≡ remember_on (node_of n t) n m
 unfolding remove_node
 remembers n t m d = go (among n (numbers_of t)) refl d
   where
@@ -113,29 +112,29 @@ remembers n t m d = go (among n (numbers_of t)) refl d
     here (some x) f = refl
     here none f = let e = f.1 in let z : ◌≡◌ {A = ℕ} 0 1 = cc in absurd (omega arith)
 
-    go : (b : Bool) → among n (numbers_of t) ≡ b → (pick b (gives plain.Done (drop_node n t)) (gives (plain.Refused NoNode) t)).answer ≡ plain.Done
+    go : (b : Bool) → among n (numbers_of t) ≡ b → (pick b (gives done (drop_node n t)) (gives (Err NoNode) t)).answer ≡ done
         → remember n (beat_of (node_of n t)) m ≡ remember_on (node_of n t) n m
     go true q e = here (node_of n t) (node-there n t (among_in n (numbers_of t) q))
     go false q e = let z : ◌≡◌ {A = ℕ} 0 1 = cc in absurd (omega arith)
 
-module _ (l : List ℕ) (v : valid_whole l ≡ true) (n : ℕ) (a : Answer) (s : List ℕ) (h : Gives (stored (remove_node n (decode (area_of l)))) a s) where
-  abbrev without : Outcome Answer
+module _ (l : List ℕ) (v : valid_whole l ≡ true) (n : ℕ) (a : (Result (Unit {0}) Refusal)) (s : List ℕ) (h : Gives (stored (remove_node n (decode (area_of l)))) a s) where
+  abbrev without : Outcome (Result (Unit {0}) Refusal)
   without = remove_node n (decode_whole l).table
 
-  pub remove-done : a ≡ plain.Done → (b : Heartbeat) → b ≡ beat_of (node_of n (decode (area_of l)))
+  pub remove-done : a ≡ done → (b : Heartbeat) → b ≡ beat_of (node_of n (decode (area_of l)))
       → (r : List ℕ) → r ≡ encode_whole (with_memory (remember n b (decode_whole l).memory) (with_table without.table (decode_whole l)))
-      → Gives (stored_whole (remove_whole n (decode_whole l))) plain.Done r
+      → Gives (stored_whole (remove_whole n (decode_whole l))) done r
   unfolding remove_whole
   remove-done q b e r p =
-      let d : without.answer ≡ plain.Done = sym h.0 ∙ q in
+      let d : without.answer ≡ done = sym h.0 ∙ q in
       let m : remember n b (decode_whole l).memory ≡ remember_on (node_of n (decode_whole l).table) n (decode_whole l).memory =
       ap (λ (x : Heartbeat). remember n x (decode_whole l).memory) e ∙ remembers n (decode_whole l).table (decode_whole l).memory d in
       (sym d, p ∙ ap (λ (x : Memory). encode_whole (with_memory x (with_table without.table (decode_whole l)))) m)
 
-  pub remove-not : (why : Refusal) → a ≡ plain.Refused why → Gives (stored_whole (remove_whole n (decode_whole l))) (plain.Refused why) (s ++ drop table_width l)
+  pub remove-not : (why : Refusal) → a ≡ Err why → Gives (stored_whole (remove_whole n (decode_whole l))) (Err why) (s ++ drop table_width l)
   unfolding remove_whole
   remove-not why q =
-      let d : without.answer ≡ plain.Refused why = sym h.0 ∙ q in (
+      let d : without.answer ≡ Err why = sym h.0 ∙ q in (
         sym d,
         area-back l v without.table s h.1
             ∙ ap (λ (x : Table). encode_whole (with_table x (decode_whole l))) (remove-node-refused n (decode_whole l).table why d)
@@ -148,7 +147,7 @@ pub asked-laid : (l : List ℕ) → valid_whole l ≡ true → LaidTail (lent_ta
 asked-laid l v = subst LaidTail (sym (seen table_width tail_width l)) (tail-laid l v)
 
 module _ (l : List ℕ) (n : ℕ) where
-  abbrev answer : Remembered
+  abbrev answer : (Result (Optional Heartbeat) Refusal)
   answer = remembered_as (heartbeat_of n (decode_whole l).memory)
 
   pub asked : remembered_as (heartbeat_of n (decode_memory (lent_tail l))) ≡ answer
@@ -156,8 +155,8 @@ module _ (l : List ℕ) (n : ℕ) where
 
   pub told : valid_whole l ≡ true → answer ≡ lent_removed n l
   unfolding lent_removed
-  told v = sym (pick_true (valid_whole l) answer (remembered.Refused BadTable) v)
+  told v = sym (pick_true (valid_whole l) answer (Err BadTable) v)
 
-  pub not-told : valid_whole l ≡ false → remembered.Refused BadTable ≡ lent_removed n l
+  pub not-told : valid_whole l ≡ false → Err BadTable ≡ lent_removed n l
   unfolding lent_removed
-  not-told v = sym (ap (λ (b : Bool). pick b answer (remembered.Refused BadTable)) v)
+  not-told v = sym (ap (λ (b : Bool). pick b answer (Err BadTable)) v)

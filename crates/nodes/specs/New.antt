@@ -6,9 +6,10 @@ use Rattle.rules.specs.Given.{Given, given}
 use Rattle.rules.specs.Lent.{lent_new}
 use Rattle.rules.specs.Profile.{Kind}
 use Rattle.rules.specs.Whole.{whole_width}
-use Rattle.rules.specs.declared.Answer.{Answer}
-use Rattle.rules.specs.declared.Answer.TheVariants.{Done, Refused}
+use Rattle.std.specs.Prelude.{Err, Result}
+use Rattle.rules.specs.declared.Refusal.{Refusal}
+use Rattle.rules.specs.Results.{done}
 use Rattle.rules.specs.declared.Refusal.TheVariants.{BadTable}
 
-unfoldable pub lent_made : (kind : Kind) (slice : Bytes) → Given Answer Bytes
-lent_made k l = pick (eqb (length l) whole_width) (given Done (lent_new k)) (given (Refused BadTable) l)
+unfoldable pub lent_made : (kind : Kind) (slice : Bytes) → Given (Result (Unit {0}) Refusal) Bytes
+lent_made k l = pick (eqb (length l) whole_width) (given done (lent_new k)) (given (Err BadTable) l)

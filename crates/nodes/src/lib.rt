@@ -17,51 +17,51 @@ ghost use Rattle.rules.specs.Whole.{decode_whole, valid_whole};
 ghost use Rattle.nodes.specs.New.{lent_made};
 ghost use Rattle.nodes.specs.Coming.{stored_whole, beat_of};
 
-use rules::{Answer, Heartbeat, Mode, Profile, Refusal, Remembered, sizes};
+use rules::{Heartbeat, Mode, Profile, Refusal, sizes};
 use table::layout;
 use table_read::Place;
 
 // The slice becomes an empty table of this mode and this profile, whatever stood there; one of another length is refused with 14.
-pub fn new_table(table: &mut [u8], mode: Mode, profile: Profile) -> Answer
+pub fn new_table(table: &mut [u8], mode: Mode, profile: Profile) -> Result<(), Refusal>
     ensures { Tells answer_told (lent_made (kind mode profile) table.old) result table.new }
 {
     if table.len() != layout::TABLE {
-        return Answer::Refused(Refusal::BadTable);
+        return Err(Refusal::BadTable);
     }
     fields::clear(table, 0, layout::TABLE);
     fields::write_byte(table, layout::AREA + layout::MODE, mode.byte());
     fields::write_byte(table, layout::AREA + layout::PROFILE, profile.byte());
-    Answer::Done
+    Ok(())
 }
 
 // A fresh node with this number in a good table; one held already stays. 4 where there is no room.
-pub fn add_good(table: &mut [u8], number: u64) -> Answer
+pub fn add_good(table: &mut [u8], number: u64) -> Result<(), Refusal>
     requires { valid table.old ≡ true }
     ensures { Gives (stored (add number (decode table.old))) result table.new }
 {
     match table_read::find_node(table, number) {
-        Place::At(_) => Answer::Done,
+        Place::At(_) => Ok(()),
         Place::Free(i) => {
             if sizes::NODES <= fields::byte_at(table, layout::NODE_COUNT) {
-                return Answer::Refused(Refusal::NinthNode);
+                return Err(Refusal::NinthNode);
             }
             table_nodes::insert_node(table, i, number);
-            Answer::Done
+            Ok(())
         }
     }
 }
 
 // The node with this number goes from a good table: 2.
-pub fn remove_good(table: &mut [u8], number: u64) -> Answer
+pub fn remove_good(table: &mut [u8], number: u64) -> Result<(), Refusal>
     requires { valid table.old ≡ true }
     ensures { Gives (stored (remove_node number (decode table.old))) result table.new }
 {
     match table_read::find_node(table, number) {
         Place::At(i) => {
             table_nodes::remove_node(table, i);
-            Answer::Done
+            Ok(())
         }
-        Place::Free(_) => Answer::Refused(Refusal::NoNode),
+        Place::Free(_) => Err(Refusal::NoNode),
     }
 }
 
@@ -80,36 +80,28 @@ fn heartbeat_in(area: &[u8], number: u64) -> Heartbeat
 }
 
 // Adds a fresh node to a good table with its memory, which forgets it.
-pub fn add_known(table: &mut [u8], number: u64) -> Answer
+pub fn add_known(table: &mut [u8], number: u64) -> Result<(), Refusal>
     requires { valid_whole table.old ≡ true }
     ensures { Gives (stored_whole (add_whole number (decode_whole table.old))) result table.new }
 {
-    match add_good(&mut table[..layout::AREA], number) {
-        Answer::Done => {
-            removed::forget(&mut table[layout::AREA..layout::TABLE], number);
-            Answer::Done
-        }
-        Answer::Refused(why) => Answer::Refused(why),
-    }
+    add_good(&mut table[..layout::AREA], number)?;
+    removed::forget(&mut table[layout::AREA..layout::TABLE], number);
+    Ok(())
 }
 
 // Removes a node from a good table with its memory, which remembers it with the heartbeat that it had.
-pub fn remove_known(table: &mut [u8], number: u64) -> Answer
+pub fn remove_known(table: &mut [u8], number: u64) -> Result<(), Refusal>
     requires { valid_whole table.old ≡ true }
     ensures { Gives (stored_whole (remove_whole number (decode_whole table.old))) result table.new }
 {
     let beat = heartbeat_in(&table[..layout::AREA], number);
-    match remove_good(&mut table[..layout::AREA], number) {
-        Answer::Done => {
-            removed::remember(&mut table[layout::AREA..layout::TABLE], number, beat);
-            Answer::Done
-        }
-        Answer::Refused(why) => Answer::Refused(why),
-    }
+    remove_good(&mut table[..layout::AREA], number)?;
+    removed::remember(&mut table[layout::AREA..layout::TABLE], number, beat);
+    Ok(())
 }
 
 // The last heartbeat of a removed node, if a good table remembers it.
-pub fn last_heartbeat_known(table: &[u8], number: u64) -> Remembered
+pub fn last_heartbeat_known(table: &[u8], number: u64) -> Result<Option<Heartbeat>, Refusal>
     requires { valid_whole table.now ≡ true }
     ensures { result ≡ remembered_as (heartbeat_of number (decode_whole table.now).memory) }
 {
@@ -117,31 +109,31 @@ pub fn last_heartbeat_known(table: &[u8], number: u64) -> Remembered
 }
 
 // Adds a fresh node, and forgets it: 14, 4.
-pub fn add_node(table: &mut [u8], number: u64) -> Answer
+pub fn add_node(table: &mut [u8], number: u64) -> Result<(), Refusal>
     ensures { Tells answer_told (lent_add number table.old) result table.new }
 {
-    if table_check::check_table(table) {
-        return add_known(table, number);
+    if !table_check::check_table(table) {
+        return Err(Refusal::BadTable);
     }
-    Answer::Refused(Refusal::BadTable)
+    add_known(table, number)
 }
 
 // Removes a node, and remembers it: 14, 2.
-pub fn remove_node(table: &mut [u8], number: u64) -> Answer
+pub fn remove_node(table: &mut [u8], number: u64) -> Result<(), Refusal>
     ensures { Tells answer_told (lent_remove_node number table.old) result table.new }
 {
-    if table_check::check_table(table) {
-        return remove_known(table, number);
+    if !table_check::check_table(table) {
+        return Err(Refusal::BadTable);
     }
-    Answer::Refused(Refusal::BadTable)
+    remove_known(table, number)
 }
 
 // The last heartbeat of a removed node, if it is remembered: 14.
-pub fn last_heartbeat(table: &[u8], number: u64) -> Remembered
+pub fn last_heartbeat(table: &[u8], number: u64) -> Result<Option<Heartbeat>, Refusal>
     ensures { Says remembered_told (lent_removed number table.now) result }
 {
-    if table_check::check_table(table) {
-        return last_heartbeat_known(table, number);
+    if !table_check::check_table(table) {
+        return Err(Refusal::BadTable);
     }
-    Remembered::Refused(Refusal::BadTable)
+    last_heartbeat_known(table, number)
 }

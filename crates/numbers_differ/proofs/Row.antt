@@ -1,4 +1,4 @@
--- Numbers in a row, from a place on. Assumes nothing.
+-- Numbers in a row. Assumes nothing.
 use Prim.Native.Nat.{ℕ, suc, ◌+◌, ◌-◌, ◌≤◌, ◌<◌}
 use mathlib.Core.Path.{◌≡◌}
 use mathlib.Core.List.{List, ◌∷◌}

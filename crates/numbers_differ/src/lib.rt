@@ -10,15 +10,7 @@ pub fn stands_from(ns: &[u64], i: usize, n: usize, x: u64) -> bool
     requires { (i ≤ n) × (n ≤ length ns.now) }
     ensures { result ≡ among x (take (n - i) (drop i ns.now)) }
 {
-    let mut found = false;
-    let mut j = i;
-    while j < n {
-        if ns[j] == x {
-            found = true;
-        }
-        j += 1;
-    }
-    found
+    ns[i..n].contains(&x)
 }
 
 // The place of a number among the marks: its low bits.
@@ -34,9 +26,7 @@ pub fn all_differ(ns: &[u64], n: usize) -> bool
     ensures { result ≡ differ (take n ns.now) }
 {
     let mut seen = [0u8; 1024];
-    let mut i = n;
-    while 0 < i {
-        i -= 1;
+    for i in (0..n).rev() {
         let x = ns[i];
         let k = place_of(x);
         if seen[k] == 1 {

@@ -16,16 +16,13 @@ use Rattle.rules.specs.Digest.{write_digest}
 use Rattle.rules.specs.Given.{Given, given}
 use Rattle.rules.specs.Lent.{both, from_table, lent_apply_as, stored_apply}
 use Rattle.rules.specs.Whole.{decode_whole, valid_whole}
-use Rattle.rules.specs.declared.Applied.TheVariants as applied
-use Rattle.rules.specs.declared.Computed.{Computed}
-use Rattle.rules.specs.declared.Computed.TheVariants as computed
+use Rattle.std.specs.Prelude.{Err, Result}
+use Rattle.exchange_ask.specs.declared.Stopped.{Stopped}
+use Rattle.rules.specs.declared.Refusal.{Refusal}
+use Rattle.rules.specs.declared.Sent.{Sent}
 use Rattle.rules.specs.declared.Refusal.TheVariants.{BadTable}
-use Rattle.rules.specs.declared.Written.{Written}
-use Rattle.rules.specs.declared.Written.TheVariants as written
 use Rattle.exchange.specs.Exchanging.{Lending, after_asking, exchanged_told, lending, lent_exchange, rooms_of}
 use Rattle.exchange_ask.specs.Asking.{forms_fit, ready_for, ready_on}
-use Rattle.exchange_ask.specs.declared.Ready.{Ready}
-use Rattle.exchange_ask.specs.declared.Ready.TheVariants as ready
 use Rattle.exchange_ask.specs.declared.Step.TheVariants.{Delta, Digest}
 use Rattle.plan.specs.Plan as planning
 use Rattle.overrides.specs.Overrides.{valid_node}
@@ -60,11 +57,11 @@ not-exchanged : (g : Lending) (publisher follower : Bytes) → (valid_whole publ
 unfolding lent_exchange ready_for exchanged_told
 not-exchanged g publisher follower h = go (valid_whole follower) refl (valid_whole publisher) refl h
   where
-    next : Ready
+    next : (Result (Unit {0}) Stopped)
     next = ready_on g.edition g.unasked (rooms_of g) (decode_whole follower).kind.profile (forms_fit publisher follower) (decode_whole publisher).table (decode_whole follower).table
 
     go : (f : Bool) → valid_whole follower ≡ f → (p : Bool) → valid_whole publisher ≡ p → (p ≡ false) ⊎ (f ≡ false)
-        → (exchanged_told (after_asking g publisher follower (pick f (pick p next (ready.No Delta BadTable)) (ready.No Digest BadTable))).answer).number ≡ 14
+        → (exchanged_told (after_asking g publisher follower (pick f (pick p next (Err (record { step = Delta; why = BadTable }))) (Err (record { step = Digest; why = BadTable })))).answer).number ≡ 14
     go false q p w x = refl
     go true q false w x = refl
     go true q true w (inl e) = absurd (true≢false e)
@@ -73,16 +70,16 @@ not-exchanged g publisher follower h = go (valid_whole follower) refl (valid_who
 fourteen : (k : Kind) → Gossips k → (c : Call k) (o : Bytes) → valid_node o ≡ true → o ∈ take (tables k) (lent_to c) → (leaves c).answer.number ≡ 14
 unfolding leaves lent_to from_table lent_apply_as written_told computed_told applied_told
 fourteen k writes_digest (calls.write-digest t edition excluded datagram place) o v m =
-    ap (λ (b : Bool). (written_told (pick {X = Given Written Bytes} b (write_digest edition excluded place (decode_whole t).table datagram) (given (written.Refused BadTable) datagram)).answer).number)
+    ap (λ (b : Bool). (written_told (pick {X = Given (Result ℕ Refusal) Bytes} b (write_digest edition excluded place (decode_whole t).table datagram) (given (Err BadTable) datagram)).answer).number)
     (no_table o t v (only o t m))
 fourteen k computes (calls.compute t edition digest excluded ties datagram mtu place) o v m =
-    ap (λ (b : Bool). (computed_told (pick {X = Given Computed Bytes} b (computing.compute edition excluded ties mtu place digest (decode_whole t).table datagram) (given (computed.Refused BadTable) datagram)).answer).number)
+    ap (λ (b : Bool). (computed_told (pick {X = Given (Result Sent Refusal) Bytes} b (computing.compute edition excluded ties mtu place digest (decode_whole t).table datagram) (given (Err BadTable) datagram)).answer).number)
     (no_table o t v (only o t m))
 fourteen k plans (calls.compute-plan t edition digest excluded nodes counts datagram mtu place) o v m =
-    ap (λ (b : Bool). (computed_told (pick {X = Given Computed Bytes} b (planning.compute_plan edition excluded nodes counts mtu place digest (decode_whole t).table datagram) (given (computed.Refused BadTable) datagram)).answer).number)
+    ap (λ (b : Bool). (computed_told (pick {X = Given (Result Sent Refusal) Bytes} b (planning.compute_plan edition excluded nodes counts mtu place digest (decode_whole t).table datagram) (given (Err BadTable) datagram)).answer).number)
     (no_table o t v (only o t m))
 fourteen k applies (calls.apply t delta answers now) o v m =
-    ap (λ (b : Bool). (applied_told (pick b (stored_apply (decode_whole t) (apply (ways_in (decode_whole t).kind) delta.bytes now.value (decode_whole t).table answers)) (given (applied.Refused BadTable 0) (both t answers))).answer).number)
+    ap (λ (b : Bool). (applied_told (pick b (stored_apply (decode_whole t) (apply (ways_in (decode_whole t).kind) delta.bytes now.value (decode_whole t).table answers)) (given (Err (record { why = BadTable; at = 0 })) (both t answers))).answer).number)
     (no_table o t v (only o t m))
 fourteen k exchanges (calls.exchange publisher follower edition unasked unsent ties digest delta answers mtu now) o v m =
     not-exchanged (lending edition unasked unsent ties mtu now.value digest delta answers) publisher follower (which (either o publisher follower m))

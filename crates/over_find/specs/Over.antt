@@ -16,12 +16,15 @@ use Rattle.rules.specs.declared.Party.{Party}
 use Rattle.rules.specs.declared.Refusal.TheVariants.{BadTable}
 use Rattle.own_rows.specs.Sight.{front_in}
 use Rattle.lookup.specs.Lookup.{find_on, find_as, handed, Hands}
+use Rattle.std.specs.Prelude.{Option as Optional}
+use Rattle.std.specs.Prelude.{Err, None, Ok, Result, Some}
 use Rattle.lookup.specs.declared.Found.{Found}
-use Rattle.lookup.specs.declared.Found.TheVariants as one
+use Rattle.over_find.specs.declared.FoundOver.{FoundOver}
+use Rattle.overrides.specs.declared.RefusedOver.{RefusedOver}
+use Rattle.rules.specs.declared.Refusal.{Refusal}
+use Rattle.over_find.specs.declared.FoundOver.TheVariants as place
 use Rattle.overrides.specs.Both.{from_both}
 use Rattle.overrides.specs.declared.Which.TheVariants as which
-use Rattle.over_find.specs.declared.FoundOver.{FoundOver}
-use Rattle.over_find.specs.declared.FoundOver.TheVariants.{InOverrides, InTable, Nothing, Refused}
 
 -- ---- the value, by the rules
 
@@ -51,57 +54,57 @@ lookup_over p q number k o t = ruled_over (lookup_on k (some o)) (rule.lookup_as
 -- ---- where it is
 
 -- the overrides' own record, if it shows
-abbrev pub first_of : (own : Found) (shared : FoundOver) → FoundOver
-first_of (one.At start len) s = InOverrides start len
-first_of one.Nothing s = s
-first_of (one.Refused r) s = s
+abbrev pub first_of : (own : (Result (Optional Found) Refusal)) (shared : (Result (Optional FoundOver) RefusedOver)) → (Result (Optional FoundOver) RefusedOver)
+first_of (Ok (Some f)) s = (Ok (Some (place.InOverrides f.start f.len)))
+first_of (Ok None) s = s
+first_of (Err r) s = s
 
 -- by what each of the two says, the table's refusals first
-abbrev pub over_of : (own shared : Found) → FoundOver
-over_of own (one.At start len) = first_of own (InTable start len)
-over_of own one.Nothing = first_of own Nothing
-over_of own (one.Refused r) = Refused which.Neither r
+abbrev pub over_of : (own shared : (Result (Optional Found) Refusal)) → (Result (Optional FoundOver) RefusedOver)
+over_of own (Ok (Some f)) = first_of own (Ok (Some (place.InTable f.start f.len)))
+over_of own (Ok None) = first_of own (Ok None)
+over_of own (Err r) = (Err (record { which = which.Neither; why = r }))
 
 -- what the ordinary lookup found, as one over both
-abbrev pub plainly : (shared : Found) → FoundOver
-plainly f = over_of one.Nothing f
+abbrev pub plainly : (shared : (Result (Optional Found) Refusal)) → (Result (Optional FoundOver) RefusedOver)
+plainly f = over_of (Ok None) f
 
 -- in good overrides, whose bytes begin with the node's
-abbrev pub own_found : (key : Bytes) (over : Node) → Found
+abbrev pub own_found : (key : Bytes) (over : Node) → (Result (Optional Found) Refusal)
 own_found k o = find_on k 0 (some o)
 
 -- and a good table: 2, 1, 19
-abbrev pub found_over : (profile : Profile) (party : Party) (number : ℕ) (key : Bytes) (over : Node) (table : Table) → FoundOver
+abbrev pub found_over : (profile : Profile) (party : Party) (number : ℕ) (key : Bytes) (over : Node) (table : Table) → (Result (Optional FoundOver) RefusedOver)
 found_over p q number k o t = over_of (own_found k o) (find_as p q number k t)
 
 -- in lent bytes: 14 of the overrides, 14 of the table, 2, 1, 19
-abbrev pub lent_find_over : (party : Party) (number : ℕ) (key overrides table : Bytes) → FoundOver
-lent_find_over q number k o t = from_both (λ w. Refused w BadTable) (found_over (decode_whole t).kind.profile q number k) o t
+abbrev pub lent_find_over : (party : Party) (number : ℕ) (key overrides table : Bytes) → (Result (Optional FoundOver) RefusedOver)
+lent_find_over q number k o t = from_both (λ w. (Err (record { which = w; why = BadTable }))) (found_over (decode_whole t).kind.profile q number k) o t
 
 -- ---- what is handed out: a part of the one slice or of the other
 
 -- the part begins so many bytes behind the front of its slice; where nothing is found or the call is refused, it is the empty part at the table's front
-abbrev pub start_of : (found : FoundOver) → ℕ
-start_of (InOverrides start len) = start
-start_of (InTable start len) = start
-start_of Nothing = 0
-start_of (Refused w r) = 0
+abbrev pub start_of : (found : (Result (Optional FoundOver) RefusedOver)) → ℕ
+start_of (Ok (Some (place.InOverrides start len))) = start
+start_of (Ok (Some (place.InTable start len))) = start
+start_of (Ok None) = 0
+start_of (Err r) = 0
 
-abbrev pub len_of : (found : FoundOver) → ℕ
-len_of (InOverrides start len) = len
-len_of (InTable start len) = len
-len_of Nothing = 0
-len_of (Refused w r) = 0
+abbrev pub len_of : (found : (Result (Optional FoundOver) RefusedOver)) → ℕ
+len_of (Ok (Some (place.InOverrides start len))) = len
+len_of (Ok (Some (place.InTable start len))) = len
+len_of (Ok None) = 0
+len_of (Err r) = 0
 
 -- it is a part of the overrides
-abbrev pub is_over : (found : FoundOver) → Bool
-is_over (InOverrides start len) = true
-is_over (InTable start len) = false
-is_over Nothing = false
-is_over (Refused w r) = false
+abbrev pub is_over : (found : (Result (Optional FoundOver) RefusedOver)) → Bool
+is_over (Ok (Some (place.InOverrides start len))) = true
+is_over (Ok (Some (place.InTable start len))) = false
+is_over (Ok None) = false
+is_over (Err r) = false
 
 -- it lies within its slice
-abbrev pub Within : (overrides table : ℕ) (found : FoundOver) → Type 0
+abbrev pub Within : (overrides table : ℕ) (found : (Result (Optional FoundOver) RefusedOver)) → Type 0
 Within o t found = start_of found + len_of found ≤ pick (is_over found) o t
 
 -- its bytes, the slice, and where it begins there
@@ -115,15 +118,15 @@ abbrev pub HandsOver : (of : HandedOver) (overrides table : ℕ × ℕ) (bytes :
 HandsOver of o t bytes pointer = Hands (record { bytes = of.bytes; start = of.start }) (pick of.over o t) bytes pointer
 
 -- the part that was found
-abbrev pub part_over : (overrides table : Bytes) (found : FoundOver) → HandedOver
+abbrev pub part_over : (overrides table : Bytes) (found : (Result (Optional FoundOver) RefusedOver)) → HandedOver
 part_over o t found = record { bytes = part (start_of found) (len_of found) (pick (is_over found) o t); over = is_over found; start = start_of found }
 
 -- a place in the table, so many bytes further back
-abbrev pub moved_by : (front : ℕ) (found : FoundOver) → FoundOver
-moved_by front (InOverrides start len) = InOverrides start len
-moved_by front (InTable start len) = InTable (start + front) len
-moved_by front Nothing = Nothing
-moved_by front (Refused w r) = Refused w r
+abbrev pub moved_by : (front : ℕ) (found : (Result (Optional FoundOver) RefusedOver)) → (Result (Optional FoundOver) RefusedOver)
+moved_by front (Ok (Some (place.InOverrides start len))) = (Ok (Some (place.InOverrides start len)))
+moved_by front (Ok (Some (place.InTable start len))) = (Ok (Some (place.InTable (start + front) len)))
+moved_by front (Ok None) = (Ok None)
+moved_by front (Err rr) = (Err (record { which = rr.which; why = rr.why }))
 
 -- the value of a key by a party, in good overrides and a good table
 abbrev pub value_over : (profile : Profile) (party : Party) (number : ℕ) (key : Bytes) (over : Node) (table : Table) → HandedOver

@@ -3,11 +3,13 @@
 use Rattle.std.specs.Prelude.{[], ◌∷◌}
 use Rattle.rules.specs.Answers.{Told, accepted, refused}
 use Rattle.overrides.specs.Both.{which_code}
+use Rattle.std.specs.Prelude.{Err, None, Ok, Option, Result, Some}
 use Rattle.over_find.specs.declared.FoundOver.{FoundOver}
-use Rattle.over_find.specs.declared.FoundOver.TheVariants.{InOverrides, InTable, Nothing, Refused}
+use Rattle.overrides.specs.declared.RefusedOver.{RefusedOver}
+use Rattle.over_find.specs.declared.FoundOver.TheVariants as place
 
-unfoldable pub found_over_told : (answer : FoundOver) → Told
-found_over_told (InOverrides start len) = accepted (1 ∷ start ∷ len ∷ [])
-found_over_told (InTable start len) = accepted (0 ∷ start ∷ len ∷ [])
-found_over_told Nothing = accepted []
-found_over_told (Refused w r) = refused r (which_code w ∷ [])
+unfoldable pub found_over_told : (answer : (Result (Option FoundOver) RefusedOver)) → Told
+found_over_told (Ok (Some (place.InOverrides start len))) = accepted (1 ∷ start ∷ len ∷ [])
+found_over_told (Ok (Some (place.InTable start len))) = accepted (0 ∷ start ∷ len ∷ [])
+found_over_told (Ok None) = accepted []
+found_over_told (Err rr) = refused rr.why (which_code rr.which ∷ [])

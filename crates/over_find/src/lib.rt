@@ -15,49 +15,55 @@ ghost use Rattle.over_find.specs.Over.{first_of, over_of, own_found, found_over,
 ghost use Rattle.over_find.specs.Told.{found_over_told};
 
 use lookup::Found;
-use overrides::Which;
+use overrides::{RefusedOver, Which};
 use rules::{Party, Refusal};
 use table::layout;
 
-// What a lookup over both finds.
+// Where a value stands: the `len` bytes from `start` on of the one or of the other. An empty value is found too.
 #[derive(Clone, Copy)]
 pub enum FoundOver {
-    // The value is the `len` bytes from `start` on of the overrides. An empty value is found too.
     InOverrides { start: usize, len: usize },
-    // The same of the table.
     InTable { start: usize, len: usize },
-    // No such key, or its record is hidden, in both.
-    Nothing,
-    Refused { which: Which, why: Refusal },
 }
 
 // The overrides' own record, if it shows: a hidden one hides nothing.
-fn first(own: Found, shared: FoundOver) -> FoundOver
+fn first(
+    own: Result<Option<Found>, Refusal>,
+    shared: Result<Option<FoundOver>, RefusedOver>,
+) -> Result<Option<FoundOver>, RefusedOver>
     ensures { result ≡ first_of own shared }
 {
     match own {
-        Found::At { start, len } => FoundOver::InOverrides { start, len },
-        Found::Nothing => shared,
-        Found::Refused(_) => shared,
+        Ok(Some(Found { start, len })) => Ok(Some(FoundOver::InOverrides { start, len })),
+        Ok(None) => shared,
+        Err(_) => shared,
     }
 }
 
 // What the two lookups come to, the table's refusals first.
-fn over(own: Found, shared: Found) -> FoundOver
+fn over(
+    own: Result<Option<Found>, Refusal>,
+    shared: Result<Option<Found>, Refusal>,
+) -> Result<Option<FoundOver>, RefusedOver>
     ensures { result ≡ over_of own shared }
 {
     match shared {
-        Found::At { start, len } => first(own, FoundOver::InTable { start, len }),
-        Found::Nothing => first(own, FoundOver::Nothing),
-        Found::Refused(why) => FoundOver::Refused {
+        Ok(Some(Found { start, len })) => first(own, Ok(Some(FoundOver::InTable { start, len }))),
+        Ok(None) => first(own, Ok(None)),
+        Err(why) => Err(RefusedOver {
             which: Which::Neither,
             why,
-        },
+        }),
     }
 }
 
 // Which of the two has the value of the key, and where, in good overrides and the area of a good table: 2, 1.
-fn find_over_good(overrides: &[u8], area: &[u8], number: u64, key: &[u8]) -> FoundOver
+fn find_over_good(
+    overrides: &[u8],
+    area: &[u8],
+    number: u64,
+    key: &[u8],
+) -> Result<Option<FoundOver>, RefusedOver>
     requires { (valid_node overrides.now ≡ true) × (valid area.now ≡ true) }
     ensures { result ≡ over_of (own_found key.now (decode_node overrides.now).node)
         (found_in number key.now (decode area.now)) }
@@ -74,7 +80,7 @@ pub fn find_over_known(
     party: Party,
     number: u64,
     key: &[u8],
-) -> FoundOver
+) -> Result<Option<FoundOver>, RefusedOver>
     requires { (valid_node overrides.now ≡ true) × (valid_whole table.now ≡ true) }
     ensures { result ≡ found_over (decode_whole table.now).kind.profile party number key.now
         (decode_node overrides.now).node (decode (area_of table.now)) }
@@ -85,36 +91,44 @@ pub fn find_over_known(
 }
 
 // Which of the two has the value of the key, and where, by a party, in lent bytes: 14 of the overrides, 14 of the table, 2, 1, 19.
-pub fn find_over(overrides: &[u8], table: &[u8], party: Party, number: u64, key: &[u8]) -> FoundOver
+pub fn find_over(
+    overrides: &[u8],
+    table: &[u8],
+    party: Party,
+    number: u64,
+    key: &[u8],
+) -> Result<Option<FoundOver>, RefusedOver>
     ensures { Says found_over_told (lent_find_over party number key.now overrides.now table.now) result }
 {
-    if overrides::check_overrides(overrides) {
-        if table_check::check_table(table) {
-            find_over_known(overrides, table, party, number, key)
-        } else {
-            FoundOver::Refused {
-                which: Which::Table,
-                why: Refusal::BadTable,
-            }
-        }
-    } else {
-        FoundOver::Refused {
+    if !overrides::check_overrides(overrides) {
+        return Err(RefusedOver {
             which: Which::Overrides,
             why: Refusal::BadTable,
-        }
+        });
     }
+    if !table_check::check_table(table) {
+        return Err(RefusedOver {
+            which: Which::Table,
+            why: Refusal::BadTable,
+        });
+    }
+    find_over_known(overrides, table, party, number, key)
 }
 
 // The part that was found, of the overrides or of the table; where nothing was, the empty part at the table's front.
-pub fn held_over<'a>(overrides: &'a [u8], table: &'a [u8], found: FoundOver) -> &'a [u8]
+pub fn held_over<'a>(
+    overrides: &'a [u8],
+    table: &'a [u8],
+    found: Result<Option<FoundOver>, RefusedOver>,
+) -> &'a [u8]
     requires { Within (length overrides.now) (length table.now) found }
     ensures { HandsOver (part_over overrides.now table.now found) overrides.entry.ref_ptr table.entry.ref_ptr result.now result.ref_ptr }
 {
     match found {
-        FoundOver::InOverrides { start, len } => &overrides[start..start + len],
-        FoundOver::InTable { start, len } => &table[start..start + len],
-        FoundOver::Nothing => &table[..0],
-        FoundOver::Refused { which: _, why: _ } => &table[..0],
+        Ok(Some(FoundOver::InOverrides { start, len })) => &overrides[start..start + len],
+        Ok(Some(FoundOver::InTable { start, len })) => &table[start..start + len],
+        Ok(None) => &table[..0],
+        Err(_) => &table[..0],
     }
 }
 
@@ -131,15 +145,14 @@ pub fn lookup_over_known<'a>(
         (decode_node overrides.now).node (decode (area_of table.now)))
         overrides.entry.ref_ptr table.entry.ref_ptr result.now result.ref_ptr }
 {
-    if party_form::may_name(profile_check::profile_of(table), party, key) {
-        held_over(
-            overrides,
-            table,
-            find_over_good(overrides, &table[..layout::AREA], number, key),
-        )
-    } else {
-        &table[..0]
+    if !party_form::may_name(profile_check::profile_of(table), party, key) {
+        return &table[..0];
     }
+    held_over(
+        overrides,
+        table,
+        find_over_good(overrides, &table[..layout::AREA], number, key),
+    )
 }
 
 // The value of the key as those very bytes of the lent overrides or of the lent table; where a party finds none or the call is refused, the empty part at
@@ -154,13 +167,11 @@ pub fn lookup_over<'a>(
     ensures { HandsOver (lent_value_over party number key.now overrides.now table.now)
         overrides.entry.ref_ptr table.entry.ref_ptr result.now result.ref_ptr }
 {
-    if overrides::check_overrides(overrides) {
-        if table_check::check_table(table) {
-            lookup_over_known(overrides, table, party, number, key)
-        } else {
-            &table[..0]
-        }
-    } else {
-        &table[..0]
+    if !overrides::check_overrides(overrides) {
+        return &table[..0];
     }
+    if !table_check::check_table(table) {
+        return &table[..0];
+    }
+    lookup_over_known(overrides, table, party, number, key)
 }

@@ -21,14 +21,13 @@ use Rattle.rules.specs.Layout.{decode_node}
 use Rattle.rules.specs.Whole.{decode_whole, valid_whole}
 use Rattle.rules.specs.declared.Profile.{Profile}
 use Rattle.rules.specs.declared.Party.{Party}
-use Rattle.rules.specs.declared.Listed.TheVariants as plain
+use Rattle.std.specs.Prelude.{Err, Ok}
 use Rattle.rules.specs.declared.Refusal.TheVariants.{BadTable, NoPlace, TooLong}
 use Rattle.overrides.specs.Overrides.{valid_node}
 use Rattle.overrides.specs.Both.{from_both}
 use Rattle.overrides.specs.declared.Which.TheVariants as which
 use Rattle.over_list.specs.Stated.{plainly_given}
 use Rattle.over_list.specs.Merged.{hits_by, hits_in, overlaid, places_of, listing, list_into, list_on, list_over, lent_list_over}
-use Rattle.over_list.specs.declared.ListedOver.TheVariants as listed
 
 -- the places of the hits are document 01's
 places-plain : (p : List ℕ) (i : ℕ) (l : List Rec) → places_of (hits_in p i l) ≡ hits_from p i l
@@ -49,8 +48,8 @@ into-plain : (found l : List ℕ) → list_into found l ≡ plainly_given (rule.
 into-plain found l = go (leb (length found) (length l))
   where
     go : (t : Bool)
-        → pick t (given (listed.Hits (length found)) (put 0 found l)) (given (listed.Refused which.Neither NoPlace) l)
-        ≡ plainly_given (pick t (given (plain.Hits (length found)) (put 0 found l)) (given (plain.Refused NoPlace) l))
+        → pick t (given (Ok (length found)) (put 0 found l)) (given (Err (record { which = which.Neither; why = NoPlace })) l)
+        ≡ plainly_given (pick t (given (Ok (length found)) (put 0 found l)) (given (Err NoPlace) l))
     go true = refl
     go false = refl
 
@@ -58,17 +57,17 @@ on-plain : (mine : List ℕ → Bool) (p : List ℕ) (o : Node) (held : Option N
 on-plain mine p o none l e = refl
 on-plain mine p o (some n) l e = go (leb (length p) max_key)
   where
-    go : (t : Bool) → pick t (list_into (places_of (listing mine p o.recs n.recs)) l) (given (listed.Refused which.Neither TooLong) l)
-        ≡ plainly_given (pick t (rule.list_into (hits_from p 0 n.recs) l) (given (plain.Refused TooLong) l))
+    go : (t : Bool) → pick t (list_into (places_of (listing mine p o.recs n.recs)) l) (given (Err (record { which = which.Neither; why = TooLong })) l)
+        ≡ plainly_given (pick t (rule.list_into (hits_from p 0 n.recs) l) (given (Err TooLong) l))
     go true = ap (λ (x : List ℕ). list_into x l) (listing-plain mine p o.recs n.recs e) ∙ into-plain (hits_from p 0 n.recs) l
     go false = refl
 
 -- in lent bytes: 14 is the table's, and all else is as `list_prefix` has it
 pub empty-list : (q : Party) (i : ℕ) (p l b t : List ℕ) → valid_node b ≡ true → (decode_node b).node.recs ≡ []
-    → lent_list_over q i p l b t ≡ pick (valid_whole t) (plainly_given (lent_prefixed q i p l t)) (given (listed.Refused which.Table BadTable) l)
+    → lent_list_over q i p l b t ≡ pick (valid_whole t) (plainly_given (lent_prefixed q i p l t)) (given (Err (record { which = which.Table; why = BadTable })) l)
 unfolding from_both from_table prefixed prefixed_as
 empty-list q i p l b t o e =
-    pick_true (valid_node b) (pick (valid_whole t) (list_over pr q i p l (decode_node b).node u) (given (listed.Refused which.Table BadTable) l)) (given (listed.Refused which.Overrides BadTable) l) o
+    pick_true (valid_node b) (pick (valid_whole t) (list_over pr q i p l (decode_node b).node u) (given (Err (record { which = which.Table; why = BadTable })) l)) (given (Err (record { which = which.Overrides; why = BadTable })) l) o
     ∙ go (valid_whole t)
   where
     pr : Profile
@@ -77,7 +76,7 @@ empty-list q i p l b t o e =
     u : Table
     u = (decode_whole t).table
 
-    go : (v : Bool) → pick v (list_over pr q i p l (decode_node b).node u) (given (listed.Refused which.Table BadTable) l)
-        ≡ pick v (plainly_given (pick v (prefix_on p (node_of i (seen pr q u)) l) (given (plain.Refused BadTable) l))) (given (listed.Refused which.Table BadTable) l)
+    go : (v : Bool) → pick v (list_over pr q i p l (decode_node b).node u) (given (Err (record { which = which.Table; why = BadTable })) l)
+        ≡ pick v (plainly_given (pick v (prefix_on p (node_of i (seen pr q u)) l) (given (Err BadTable) l))) (given (Err (record { which = which.Table; why = BadTable })) l)
     go true = on-plain (sees pr q) p (decode_node b).node (node_of i (seen pr q u)) l e
     go false = refl

@@ -14,8 +14,8 @@ use lib.Dec.{eqb, ltb}
 use borrow.Author.Tests.{eqb-true, eqb-false, ltb-true, ltb-false}
 use Rattle.fields.specs.Choice.{pick, ◌∈◌, here, later}
 use Rattle.fields.specs.Order.{less_bytes, starts_with, order_of}
-use Rattle.fields.specs.declared.Order.{Order}
-use Rattle.fields.specs.declared.Order.TheVariants.{Less, Same, More}
+use Rattle.std.specs.declared.cmp.Ordering.{Ordering}
+use Rattle.std.specs.declared.cmp.Ordering.TheVariants.{Less, Equal, Greater}
 use Rattle.fields.proofs.Choice.{in-none, in-cons}
 use Rattle.fields.proofs.Ordered.{same_true, less-trans, order_same, order-less, order-more}
 use Rattle.rules.specs.Node.{Rec, hidden, hits}
@@ -314,7 +314,7 @@ module _ (o n : List ℕ) (laid : LaidNode o) (rises : keys_rise (recs_in o) ≡
       }
 
   -- the node's record comes next
-  more-is : b < b_end → AllAbove (key_of s) os → TurnIs o a a_end n base b b_end (turn_of More a j r s)
+  more-is : b < b_end → AllAbove (key_of s) os → TurnIs o a a_end n base b b_end (turn_of Greater a j r s)
   more-is h x =
       record {
         splits =
@@ -330,7 +330,7 @@ module _ (o n : List ℕ) (laid : LaidNode o) (rises : keys_rise (recs_in o) ≡
       }
 
   -- both have the key
-  same-is : a < a_end → b < b_end → key_of r ≡ key_of s → TurnIs o a a_end n base b b_end (turn_of Same a j r s)
+  same-is : a < a_end → b < b_end → key_of r ≡ key_of s → TurnIs o a a_end n base b b_end (turn_of Equal a j r s)
   same-is h g e = go (hidden r.kv.status) refl
     where
       go : (t : Bool) → hidden r.kv.status ≡ t → TurnIs o a a_end n base b b_end (both_turn t a j s)
@@ -362,13 +362,13 @@ module _ (o n : List ℕ) (laid : LaidNode o) (rises : keys_rise (recs_in o) ≡
           }
 
   -- by the order of the two keys
-  keyed-is : a < a_end → b < b_end → (x : Order) → order_of (key_of r) (key_of s) ≡ x → TurnIs o a a_end n base b b_end (turn_of x a j r s)
+  keyed-is : a < a_end → b < b_end → (x : Ordering) → order_of (key_of r) (key_of s) ≡ x → TurnIs o a a_end n base b b_end (turn_of x a j r s)
   keyed-is h g Less e =
       less-is h
       (subst (AllAbove (key_of r)) (sym (n-is g))
       (hits-above unhidden (key_of r) j (s ∷ piece (suc b) b_end n) (above-cons (key_of r) s (piece (suc b) b_end n) (order-less (key_of r) (key_of s) e) (n-above g))))
-  keyed-is h g Same e = same-is h g (same_true (key_of r) (key_of s) (order_same (key_of r) (key_of s) e))
-  keyed-is h g More e =
+  keyed-is h g Equal e = same-is h g (same_true (key_of r) (key_of s) (order_same (key_of r) (key_of s) e))
+  keyed-is h g Greater e =
       more-is g
       (subst (AllAbove (key_of s)) (sym (o_is h))
       (hits-above unhidden (key_of s) i (r ∷ piece (suc a) a_end o)
@@ -382,7 +382,7 @@ module _ (o n : List ℕ) (laid : LaidNode o) (rises : keys_rise (recs_in o) ≡
   pub turn_is : a + b < a_end + b_end → TurnIs o a a_end n base b b_end (turn_of (next_key a a_end b b_end o n) a j r s)
   turn_is some = go (eqb a a_end) refl (eqb b b_end) refl
     where
-      go : (x : Bool) → eqb a a_end ≡ x → (y : Bool) → eqb b b_end ≡ y → TurnIs o a a_end n base b b_end (turn_of (pick x More (pick y Less (order_of (key_of r) (key_of s)))) a j r s)
+      go : (x : Bool) → eqb a a_end ≡ x → (y : Bool) → eqb b b_end ≡ y → TurnIs o a a_end n base b b_end (turn_of (pick x Greater (pick y Less (order_of (key_of r) (key_of s)))) a j r s)
       go true p y q =
           let e : a ≡ a_end = eqb-true a a_end p in
           more-is (omega arith) (side-over o i a a_end (key_of s) e)

@@ -18,8 +18,8 @@ use Rattle.rules.specs.declared.Party.{Party}
 use Rattle.rules.specs.declared.Refusal.TheVariants.{TooLong, NoNode, NoPlace, BadTable}
 use Rattle.overrides.specs.Both.{from_both}
 use Rattle.overrides.specs.declared.Which.TheVariants as which
-use Rattle.over_list.specs.declared.ListedOver.{ListedOver}
-use Rattle.over_list.specs.declared.ListedOver.TheVariants as listed
+use Rattle.std.specs.Prelude.{Err, Ok, Result}
+use Rattle.overrides.specs.declared.RefusedOver.{RefusedOver}
 
 -- what a hit in the overrides has before its place
 abbrev pub over_place : ℕ
@@ -82,20 +82,20 @@ places_as pr q p o n = places_of (listing_as pr q p o n)
 -- ---- the call
 
 -- the places of the hits go to the front of the lent list, where it has room for them (8)
-abbrev pub list_into : (found list : Bytes) → Given ListedOver Bytes
+abbrev pub list_into : (found list : Bytes) → Given (Result ℕ RefusedOver) Bytes
 list_into found l =
-    pick (leb (length found) (length l)) (given (listed.Hits (length found)) (put 0 found l)) (given (listed.Refused which.Neither NoPlace) l)
+    pick (leb (length found) (length l)) (given (Ok (length found)) (put 0 found l)) (given (Err (record { which = which.Neither; why = NoPlace })) l)
 
 -- 2, 1, 8
-abbrev pub list_on : (mine : Bytes → Bool) (prefix : Bytes) (over : Node) (held : Option Node) (list : Bytes) → Given ListedOver Bytes
-list_on mine p o none l = given (listed.Refused which.Neither NoNode) l
+abbrev pub list_on : (mine : Bytes → Bool) (prefix : Bytes) (over : Node) (held : Option Node) (list : Bytes) → Given (Result ℕ RefusedOver) Bytes
+list_on mine p o none l = given (Err (record { which = which.Neither; why = NoNode })) l
 list_on mine p o (some n) l =
-    pick (leb (length p) max_key) (list_into (places_of (listing mine p o.recs n.recs)) l) (given (listed.Refused which.Neither TooLong) l)
+    pick (leb (length p) max_key) (list_into (places_of (listing mine p o.recs n.recs)) l) (given (Err (record { which = which.Neither; why = TooLong })) l)
 
 -- by a party
-abbrev pub list_over : (profile : Profile) (party : Party) (number : ℕ) (prefix list : Bytes) (over : Node) (table : Table) → Given ListedOver Bytes
+abbrev pub list_over : (profile : Profile) (party : Party) (number : ℕ) (prefix list : Bytes) (over : Node) (table : Table) → Given (Result ℕ RefusedOver) Bytes
 list_over pr q number p l o t = list_on (sees pr q) p o (node_of number (seen pr q t)) l
 
 -- in lent bytes: 14 of the overrides, 14 of the table, 2, 1, 8
-abbrev pub lent_list_over : (party : Party) (number : ℕ) (prefix list overrides table : Bytes) → Given ListedOver Bytes
-lent_list_over q number p l o t = from_both (λ w. given (listed.Refused w BadTable) l) (list_over (decode_whole t).kind.profile q number p l) o t
+abbrev pub lent_list_over : (party : Party) (number : ℕ) (prefix list overrides table : Bytes) → Given (Result ℕ RefusedOver) Bytes
+lent_list_over q number p l o t = from_both (λ w. given (Err (record { which = w; why = BadTable })) l) (list_over (decode_whole t).kind.profile q number p l) o t

@@ -2,9 +2,9 @@
 use Rattle.std.specs.Prelude.{[], ◌∷◌}
 use Rattle.rules.specs.Answers.{Told, accepted, refused}
 use Rattle.overrides.specs.Both.{which_code}
-use Rattle.over_list.specs.declared.ListedOver.{ListedOver}
-use Rattle.over_list.specs.declared.ListedOver.TheVariants as listed
+use Rattle.std.specs.Prelude.{Err, Ok, Result, ℕ}
+use Rattle.overrides.specs.declared.RefusedOver.{RefusedOver}
 
-unfoldable pub listed_over_told : (answer : ListedOver) → Told
-listed_over_told (listed.Hits n) = accepted (n ∷ [])
-listed_over_told (listed.Refused w r) = refused r (which_code w ∷ [])
+unfoldable pub listed_over_told : (answer : (Result ℕ RefusedOver)) → Told
+listed_over_told (Ok n) = accepted (n ∷ [])
+listed_over_told (Err rr) = refused rr.why (which_code rr.which ∷ [])

@@ -3,8 +3,8 @@ use Rattle.std.specs.Prelude.{ℕ, ◌+◌, ◌-◌, ◌≤◌, ◌<◌, ◌≡�
 use Rattle.fields.specs.Choice.{pick}
 use Rattle.fields.specs.Numbers.{Bytes}
 use Rattle.fields.specs.Order.{order_of}
-use Rattle.fields.specs.declared.Order.{Order}
-use Rattle.fields.specs.declared.Order.TheVariants.{Less, Same, More}
+use Rattle.std.specs.declared.cmp.Ordering.{Ordering}
+use Rattle.std.specs.declared.cmp.Ordering.TheVariants.{Less, Equal, Greater}
 use Rattle.rules.specs.Node.{Rec, hidden}
 use Rattle.table.specs.Tests.{count_of, recs_in}
 use Rattle.table.specs.Places.{rec_at}
@@ -13,8 +13,8 @@ use Rattle.over_list.specs.declared.Turn.{Turn}
 use Rattle.over_list.specs.Merged.{Hit, over_place, hits_by, overlaid, places_of}
 
 -- how the key of record a of the overrides stands to that of record b of the node; a side that is at its end comes last
-abbrev pub next_key : (a a_end b b_end : ℕ) (over node : Bytes) → Order
-next_key a a_end b b_end o n = pick (eqb a a_end) More (pick (eqb b b_end) Less (order_of (rec_at a o).kv.key (rec_at b n).kv.key))
+abbrev pub next_key : (a a_end b b_end : ℕ) (over node : Bytes) → Ordering
+next_key a a_end b b_end o n = pick (eqb a a_end) Greater (pick (eqb b b_end) Less (order_of (rec_at a o).kv.key (rec_at b n).kv.key))
 
 abbrev pub turn_as : (hit listed over node : ℕ) → Turn
 turn_as hit listed over node = record { hit = hit; listed = listed; over = over; node = node }
@@ -28,10 +28,10 @@ abbrev pub both_turn : (hides : Bool) (a b : ℕ) (shared : Rec) → Turn
 both_turn true a b s = turn_as b (shown_once s) 1 1
 both_turn false a b s = turn_as (over_place + a) 1 1 1
 
-abbrev pub turn_of : (order : Order) (a b : ℕ) (own shared : Rec) → Turn
+abbrev pub turn_of : (order : Ordering) (a b : ℕ) (own shared : Rec) → Turn
 turn_of Less a b r s = turn_as (over_place + a) (shown_once r) 1 0
-turn_of Same a b r s = both_turn (hidden r.kv.status) a b s
-turn_of More a b r s = turn_as b (shown_once s) 0 1
+turn_of Equal a b r s = both_turn (hidden r.kv.status) a b s
+turn_of Greater a b r s = turn_as b (shown_once s) 0 1
 
 -- the records that are not hidden
 abbrev pub unhidden : (rec : Rec) → Bool

@@ -22,25 +22,17 @@ ghost use Rattle.over_list.specs.Merged.{places_as, list_on, list_over, lent_lis
 ghost use Rattle.over_list.specs.Turns.{next_key, shown_once, turn_of, left_in, PassIn};
 ghost use Rattle.over_list.specs.Told.{listed_over_told};
 
-use fields::Order;
-use overrides::Which;
+use overrides::{RefusedOver, Which};
 use prefix::Stretch;
 use rules::{Header, Party, Profile, Record, Refusal};
+use std::cmp::Ordering;
 use table::layout;
-use table_read::Span;
 
 // The most hits: all records of the overrides and all of the node.
 pub const PLACES: usize = 2 * Header::RECORDS;
 
 // What a hit in the overrides has before its place.
 pub const OVER: usize = 128;
-
-// The answer of a merged listing: how many hits it found.
-#[derive(Clone, Copy)]
-pub enum ListedOver {
-    Hits(usize),
-    Refused { which: Which, why: Refusal },
-}
 
 // One turn of the merging: a byte, how many times it is listed (0 or 1), and how many records each side goes on.
 #[derive(Clone, Copy)]
@@ -60,16 +52,23 @@ fn shown_once(node: &[u8], j: usize) -> usize
 }
 
 // How the next key of the overrides stands to the next of the node; a side that is at its end comes last.
-fn next_key(overrides: &[u8], a: usize, a_end: usize, node: &[u8], b: usize, b_end: usize) -> Order
+fn next_key(
+    overrides: &[u8],
+    a: usize,
+    a_end: usize,
+    node: &[u8],
+    b: usize,
+    b_end: usize,
+) -> Ordering
     requires { LaidNode overrides.now × LaidNode node.now × (a ≤ a_end) × (a_end ≤ count_of overrides.now)
         × (b ≤ b_end) × (b_end ≤ count_of node.now) }
     ensures { result ≡ next_key a a_end b b_end overrides.now node.now }
 {
     if a == a_end {
-        return Order::More;
+        return Ordering::Greater;
     }
     if b == b_end {
-        return Order::Less;
+        return Ordering::Less;
     }
     fields::compare(
         table::key_of(table::record_of(overrides, a)),
@@ -94,13 +93,13 @@ fn next_turn(
         (rec_at a overrides.now) (rec_at b node.now) }
 {
     match next_key(overrides, a, a_end, node, b, b_end) {
-        Order::Less => Turn {
+        Ordering::Less => Turn {
             hit: OVER + a,
             listed: shown_once(overrides, a),
             over: 1,
             node: 0,
         },
-        Order::Same => {
+        Ordering::Equal => {
             if prefix::is_shown(overrides, a) {
                 return Turn {
                     hit: OVER + a,
@@ -116,7 +115,7 @@ fn next_turn(
                 node: 1,
             }
         }
-        Order::More => Turn {
+        Ordering::Greater => Turn {
             hit: b - base,
             listed: shown_once(node, b),
             over: 0,
@@ -146,6 +145,7 @@ fn merge(
     let mut a = own.start;
     let mut b = shared.start;
     let mut next = 0;
+    // Two runs merged: a turn takes from one of them or from both, so neither place is a counter of turns.
     while a + b < a_end + b_end {
         let t = next_turn(overrides, a, a_end, node, base, b, b_end);
         out[next] = t.hit as u8;
@@ -222,7 +222,7 @@ fn in_nodes(
     party: Party,
     prefix: &[u8],
     out: &mut [u8],
-) -> ListedOver
+) -> Result<usize, RefusedOver>
     requires { LaidNode overrides.now × (keys_rise (recs_in overrides.now) ≡ true) × LaidNode node.now × (keys_rise (recs_in node.now) ≡ true)
         × (recs_formed profile (recs_in node.now) ≡ true) }
     ensures { Gives
@@ -231,21 +231,21 @@ fn in_nodes(
         result out.new }
 {
     if Record::KEY < prefix.len() {
-        return ListedOver::Refused {
+        return Err(RefusedOver {
             which: Which::Neither,
             why: Refusal::TooLong,
-        };
+        });
     }
     let mut found = [0u8; PLACES];
     let n = merge_seen(overrides, node, profile, party, prefix, &mut found);
     if out.len() < n {
-        return ListedOver::Refused {
+        return Err(RefusedOver {
             which: Which::Neither,
             why: Refusal::NoPlace,
-        };
+        });
     }
     fields::copy_to(out, 0, &found[..n]);
-    ListedOver::Hits(n)
+    Ok(n)
 }
 
 // The listing by a party in good overrides and the area of a good table of a profile: 2, 1, 8.
@@ -257,21 +257,24 @@ fn list_over_seen(
     number: u64,
     prefix: &[u8],
     out: &mut [u8],
-) -> ListedOver
+) -> Result<usize, RefusedOver>
     requires { (valid_node overrides.now ≡ true) × (valid area.now ≡ true) × (profile_obeys profile (decode area.now) ≡ true) }
     ensures { Gives
         (list_over profile party number prefix.now out.old (decode_node overrides.now).node (decode area.now))
         result out.new }
 {
-    match table_read::node_span(area, number) {
-        Span::Held { start, end } => {
-            in_nodes(overrides, &area[start..end], profile, party, prefix, out)
-        }
-        Span::Missing => ListedOver::Refused {
-            which: Which::Neither,
-            why: Refusal::NoNode,
-        },
-    }
+    let span = table_read::node_span(area, number).ok_or(RefusedOver {
+        which: Which::Neither,
+        why: Refusal::NoNode,
+    })?;
+    in_nodes(
+        overrides,
+        &area[span.start..span.end],
+        profile,
+        party,
+        prefix,
+        out,
+    )
 }
 
 // The listing by a party in good overrides and a good table: 2, 1, 8.
@@ -282,7 +285,7 @@ pub fn list_over_known(
     number: u64,
     prefix: &[u8],
     out: &mut [u8],
-) -> ListedOver
+) -> Result<usize, RefusedOver>
     requires { (valid_node overrides.now ≡ true) × (valid_whole table.now ≡ true) }
     ensures { Gives
         (lent_list_over party number prefix.now out.old overrides.now table.now)
@@ -308,24 +311,22 @@ pub fn list_over(
     number: u64,
     prefix: &[u8],
     out: &mut [u8],
-) -> ListedOver
+) -> Result<usize, RefusedOver>
     ensures { Tells listed_over_told
         (lent_list_over party number prefix.now out.old overrides.now table.now)
         result out.new }
 {
-    if overrides::check_overrides(overrides) {
-        if table_check::check_table(table) {
-            list_over_known(overrides, table, party, number, prefix, out)
-        } else {
-            ListedOver::Refused {
-                which: Which::Table,
-                why: Refusal::BadTable,
-            }
-        }
-    } else {
-        ListedOver::Refused {
+    if !overrides::check_overrides(overrides) {
+        return Err(RefusedOver {
             which: Which::Overrides,
             why: Refusal::BadTable,
-        }
+        });
     }
+    if !table_check::check_table(table) {
+        return Err(RefusedOver {
+            which: Which::Table,
+            why: Refusal::BadTable,
+        });
+    }
+    list_over_known(overrides, table, party, number, prefix, out)
 }

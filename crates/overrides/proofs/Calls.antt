@@ -19,8 +19,9 @@ use Rattle.rules.specs.Node.{Setting, SettingTtl}
 use Rattle.rules.specs.Table.{Entry}
 use Rattle.rules.specs.Delta.{status_byte}
 use Rattle.rules.specs.Layout.{node_widths, node_width, encode_node, decode_node}
-use Rattle.rules.specs.declared.Answer.{Answer}
-use Rattle.rules.specs.declared.Answer.TheVariants.{Done, Refused}
+use Rattle.std.specs.Prelude.{Err, Result}
+use Rattle.rules.specs.declared.Refusal.{Refusal}
+use Rattle.rules.specs.Results.{done}
 use Rattle.rules.specs.declared.Refusal.TheVariants.{BadTable, BadTag}
 use Rattle.rules.specs.declared.Status.{Status}
 use Rattle.rules.specs.declared.Status.TheVariants.{Set, Delete, Ttl}
@@ -55,23 +56,23 @@ module _ (v : List ℕ) (now : ℕ) (k : List ℕ) (e : Entry) where
   unfolding written
   write-ttl = refl
 
-  write-delete : written (status_byte Delete) v now k e ≡ given (Refused BadTag) e
+  write-delete : written (status_byte Delete) v now k e ≡ given (Err BadTag) e
   unfolding written
   write-delete = refl
 
 module _ (v : List ℕ) (now : ℕ) (k b : List ℕ) (wanted : Status) where
-  abbrev asked : Given Answer (List ℕ)
+  abbrev asked : Given (Result (Unit {0}) Refusal) (List ℕ)
   asked = stored_node (written (status_byte wanted) v now k (decode_node b))
 
-  pub set_gives : wanted ≡ Set → (r : Answer) (s : List ℕ) → Gives (stored_node (called (Setting v) k (decode_node b))) r s → Gives asked r s
-  set_gives e r s = subst (λ (o : Given Answer Entry). Gives (stored_node o) r s) (sym (ap (λ (x : Status). written (status_byte x) v now k (decode_node b)) e ∙ write-set v now k (decode_node b)))
+  pub set_gives : wanted ≡ Set → (r : (Result (Unit {0}) Refusal)) (s : List ℕ) → Gives (stored_node (called (Setting v) k (decode_node b))) r s → Gives asked r s
+  set_gives e r s = subst (λ (o : Given (Result (Unit {0}) Refusal) Entry). Gives (stored_node o) r s) (sym (ap (λ (x : Status). written (status_byte x) v now k (decode_node b)) e ∙ write-set v now k (decode_node b)))
 
-  pub ttl-gives : wanted ≡ Ttl → (r : Answer) (s : List ℕ) → Gives (stored_node (called (SettingTtl v now) k (decode_node b))) r s → Gives asked r s
-  ttl-gives e r s = subst (λ (o : Given Answer Entry). Gives (stored_node o) r s) (sym (ap (λ (x : Status). written (status_byte x) v now k (decode_node b)) e ∙ write-ttl v now k (decode_node b)))
+  pub ttl-gives : wanted ≡ Ttl → (r : (Result (Unit {0}) Refusal)) (s : List ℕ) → Gives (stored_node (called (SettingTtl v now) k (decode_node b))) r s → Gives asked r s
+  ttl-gives e r s = subst (λ (o : Given (Result (Unit {0}) Refusal) Entry). Gives (stored_node o) r s) (sym (ap (λ (x : Status). written (status_byte x) v now k (decode_node b)) e ∙ write-ttl v now k (decode_node b)))
 
-  pub tag-gives : wanted ≡ Delete → valid_node b ≡ true → Gives asked (Refused BadTag) b
+  pub tag-gives : wanted ≡ Delete → valid_node b ≡ true → Gives asked (Err BadTag) b
   tag-gives e g =
-      subst (λ (o : Given Answer Entry). Gives (stored_node o) (Refused BadTag) b)
+      subst (λ (o : Given (Result (Unit {0}) Refusal) Entry). Gives (stored_node o) (Err BadTag) b)
       (sym (ap (λ (x : Status). written (status_byte x) v now k (decode_node b)) e ∙ write-delete v now k (decode_node b))) (refl, sym (over-back b g))
 
 -- ---- new overrides
@@ -83,19 +84,19 @@ cleared l e =
     ap (put 0 z) (sym (append-nil l)) ∙ put-at 0 z [] l [] refl (length-zeros node_width ∙ sym e) ∙ append-nil z
 
 module _ (i : ℕ) (l : List ℕ) where
-  pub made : length l ≡ node_width → (s t : List ℕ) → s ≡ put 0 (zeros node_width) l → t ≡ put (offset node_widths 0) (bytes_of 8 i) s → Gives (lent_new_overrides i l) Done t
+  pub made : length l ≡ node_width → (s t : List ℕ) → s ≡ put 0 (zeros node_width) l → t ≡ put (offset node_widths 0) (bytes_of 8 i) s → Gives (lent_new_overrides i l) done t
   unfolding lent_new_overrides
   made e s t p q =
-      let o : lent_new_overrides i l ≡ given Done (encode_node (fresh_entry i)) =
-      pick_true (eqb (length l) node_width) (given Done (encode_node (fresh_entry i))) (given (Refused BadTable) l) (eq-eqb (length l) node_width e) in
+      let o : lent_new_overrides i l ≡ given done (encode_node (fresh_entry i)) =
+      pick_true (eqb (length l) node_width) (given done (encode_node (fresh_entry i))) (given (Err BadTable) l) (eq-eqb (length l) node_width e) in
       let zero : s ≡ zeros node_width = p ∙ cleared l e in (
-        ap (λ (x : Given Answer (List ℕ)). x.answer) (sym o),
-        q ∙ ap (put (offset node_widths 0) (bytes_of 8 i)) zero ∙ fresh-bytes i ∙ ap (λ (x : Given Answer (List ℕ)). x.lent) (sym o),
+        ap (λ (x : Given (Result (Unit {0}) Refusal) (List ℕ)). x.answer) (sym o),
+        q ∙ ap (put (offset node_widths 0) (bytes_of 8 i)) zero ∙ fresh-bytes i ∙ ap (λ (x : Given (Result (Unit {0}) Refusal) (List ℕ)). x.lent) (sym o),
       )
 
-  pub not_made : (length l ≡ node_width → ⊥) → Gives (lent_new_overrides i l) (Refused BadTable) l
+  pub not_made : (length l ≡ node_width → ⊥) → Gives (lent_new_overrides i l) (Err BadTable) l
   unfolding lent_new_overrides
   not_made n =
-      let o : lent_new_overrides i l ≡ given (Refused BadTable) l =
-      pick-false (eqb (length l) node_width) (given Done (encode_node (fresh_entry i))) (given (Refused BadTable) l) (ne_eqb (length l) node_width n) in
-      (ap (λ (x : Given Answer (List ℕ)). x.answer) (sym o), ap (λ (x : Given Answer (List ℕ)). x.lent) (sym o))
+      let o : lent_new_overrides i l ≡ given (Err BadTable) l =
+      pick-false (eqb (length l) node_width) (given done (encode_node (fresh_entry i))) (given (Err BadTable) l) (ne_eqb (length l) node_width n) in
+      (ap (λ (x : Given (Result (Unit {0}) Refusal) (List ℕ)). x.answer) (sym o), ap (λ (x : Given (Result (Unit {0}) Refusal) (List ℕ)). x.lent) (sym o))

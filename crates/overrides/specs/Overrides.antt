@@ -12,8 +12,9 @@ use Rattle.rules.specs.Local.{answer_of}
 use Rattle.rules.specs.Delta.{status_byte}
 use Rattle.rules.specs.Layout.{node_width, encode_node, decode_node}
 use Rattle.rules.specs.declared.Status.TheVariants.{Set, Ttl}
-use Rattle.rules.specs.declared.Answer.{Answer}
-use Rattle.rules.specs.declared.Answer.TheVariants.{Done, Refused}
+use Rattle.std.specs.Prelude.{Err, Result}
+use Rattle.rules.specs.declared.Refusal.{Refusal}
+use Rattle.rules.specs.Results.{done}
 use Rattle.rules.specs.declared.Refusal.TheVariants.{BadTable, BadTag}
 use Rattle.table.specs.Changes.{with_node, fresh_entry}
 
@@ -32,33 +33,33 @@ on_overrides bad rule b = pick (valid_node b) (stored_node (rule (decode_node b)
 -- ---- the rules
 
 -- a local call at a key, as document 01's node decides it: 1, 3, nothing to change, 5, 6
-abbrev pub called : (call : Call) (key : Bytes) (entry : Entry) → Given Answer Entry
+abbrev pub called : (call : Call) (key : Bytes) (entry : Entry) → Given (Result (Unit {0}) Refusal) Entry
 called c k e = given (answer_of (decide c k e.node)) (with_node (act k (decide c k e.node) e.node) e)
 
 -- the one write (ticket 6), by the number of the wanted status: 10 for any but Set and TTL
-unfoldable pub written : (wanted : ℕ) (value : Bytes) (now : ℕ) (key : Bytes) (entry : Entry) → Given Answer Entry
+unfoldable pub written : (wanted : ℕ) (value : Bytes) (now : ℕ) (key : Bytes) (entry : Entry) → Given (Result (Unit {0}) Refusal) Entry
 written wanted v now k e =
     pick (eqb wanted (status_byte Set)) (called (Setting v) k e)
-    (pick (eqb wanted (status_byte Ttl)) (called (SettingTtl v now) k e) (given (Refused BadTag) e))
+    (pick (eqb wanted (status_byte Ttl)) (called (SettingTtl v now) k e) (given (Err BadTag) e))
 
 -- removal by the clock
-abbrev pub cleaned : (now grace : ℕ) (entry : Entry) → Given Answer Entry
-cleaned now grace e = given Done (with_node (remove (due now grace) e.node) e)
+abbrev pub cleaned : (now grace : ℕ) (entry : Entry) → Given (Result (Unit {0}) Refusal) Entry
+cleaned now grace e = given done (with_node (remove (due now grace) e.node) e)
 
 -- ---- on lent bytes
 
 -- The slice becomes overrides without a record, whatever stood there. One of another length can be none: 14.
-unfoldable pub lent_new_overrides : (number : ℕ) (slice : Bytes) → Given Answer Bytes
-lent_new_overrides i b = pick (eqb (length b) node_width) (given Done (encode_node (fresh_entry i))) (given (Refused BadTable) b)
+unfoldable pub lent_new_overrides : (number : ℕ) (slice : Bytes) → Given (Result (Unit {0}) Refusal) Bytes
+lent_new_overrides i b = pick (eqb (length b) node_width) (given done (encode_node (fresh_entry i))) (given (Err BadTable) b)
 
 -- 14, 10, 1, 5, 6
-abbrev pub lent_write_override : (wanted : ℕ) (value : Bytes) (now : ℕ) (key overrides : Bytes) → Given Answer Bytes
-lent_write_override wanted v now k b = on_overrides (Refused BadTable) (written wanted v now k) b
+abbrev pub lent_write_override : (wanted : ℕ) (value : Bytes) (now : ℕ) (key overrides : Bytes) → Given (Result (Unit {0}) Refusal) Bytes
+lent_write_override wanted v now k b = on_overrides (Err BadTable) (written wanted v now k) b
 
 -- the two deletes: 14, 1, 3, 6
-abbrev pub lent_call_override : (call : Call) (key overrides : Bytes) → Given Answer Bytes
-lent_call_override c k b = on_overrides (Refused BadTable) (called c k) b
+abbrev pub lent_call_override : (call : Call) (key overrides : Bytes) → Given (Result (Unit {0}) Refusal) Bytes
+lent_call_override c k b = on_overrides (Err BadTable) (called c k) b
 
 -- 14
-abbrev pub lent_remove_overrides : (now grace : ℕ) (overrides : Bytes) → Given Answer Bytes
-lent_remove_overrides now grace b = on_overrides (Refused BadTable) (cleaned now grace) b
+abbrev pub lent_remove_overrides : (now grace : ℕ) (overrides : Bytes) → Given (Result (Unit {0}) Refusal) Bytes
+lent_remove_overrides now grace b = on_overrides (Err BadTable) (cleaned now grace) b

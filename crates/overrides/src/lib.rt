@@ -15,7 +15,7 @@ ghost use Rattle.overrides.specs.Overrides.{lent_new_overrides, lent_write_overr
 ghost use Rattle.overrides.specs.Both.{which_code};
 
 use local_node::Kind;
-use rules::{Answer, Refusal, Status};
+use rules::{Refusal, Status};
 use table::layout;
 
 // Of two lent things, the one that a refusal is of.
@@ -25,6 +25,13 @@ pub enum Which {
     Neither,
     Overrides,
     Table,
+}
+
+// A refusal of a call that looks at both, and of which of them it is.
+#[derive(Clone, Copy)]
+pub struct RefusedOver {
+    pub which: Which,
+    pub why: Refusal,
 }
 
 impl Which {
@@ -44,37 +51,46 @@ impl Which {
 pub fn check_overrides(overrides: &[u8]) -> bool
     ensures { result ≡ valid_node overrides.now }
 {
-    if overrides.len() != layout::NODE {
-        return false;
-    }
-    table_check::check_node(overrides)
+    overrides.len() == layout::NODE && table_check::check_node(overrides)
 }
 
 // The slice becomes overrides without a record, under this number, whatever stood there; one of another length is refused with 14.
-pub fn new_overrides(overrides: &mut [u8], number: u64) -> Answer
+pub fn new_overrides(overrides: &mut [u8], number: u64) -> Result<(), Refusal>
     ensures { Tells answer_told (lent_new_overrides number overrides.old) result overrides.new }
 {
     if overrides.len() != layout::NODE {
-        return Answer::Refused(Refusal::BadTable);
+        return Err(Refusal::BadTable);
     }
     fields::clear(overrides, 0, layout::NODE);
     fields::write_u64(overrides, layout::NUMBER, number);
-    Answer::Done
+    Ok(())
 }
 
 // One of document 01's four calls at a key: 14, then what the node's rules say.
-fn call(overrides: &mut [u8], kind: Kind, key: &[u8], value: &[u8], clock: u64) -> Answer
+fn call(
+    overrides: &mut [u8],
+    kind: Kind,
+    key: &[u8],
+    value: &[u8],
+    clock: u64,
+) -> Result<(), Refusal>
     ensures { Tells answer_told (lent_call_override (call_of kind value.now clock) key.now overrides.old)
         result overrides.new }
 {
-    if check_overrides(overrides) {
-        return local_node::write_node(overrides, kind, key, value, clock);
+    if !check_overrides(overrides) {
+        return Err(Refusal::BadTable);
     }
-    Answer::Refused(Refusal::BadTable)
+    local_node::write_node(overrides, kind, key, value, clock)
 }
 
 // The write on good overrides: 10, then what the node's rules say.
-fn write_good(overrides: &mut [u8], key: &[u8], value: &[u8], wanted: Status, clock: u64) -> Answer
+fn write_good(
+    overrides: &mut [u8],
+    key: &[u8],
+    value: &[u8],
+    wanted: Status,
+    clock: u64,
+) -> Result<(), Refusal>
     requires { valid_node overrides.old ≡ true }
     ensures { Gives
         (stored_node (written (status_byte wanted) value.now clock key.now (decode_node overrides.old)))
@@ -82,7 +98,7 @@ fn write_good(overrides: &mut [u8], key: &[u8], value: &[u8], wanted: Status, cl
 {
     match wanted {
         Status::Set => local_node::write_node(overrides, Kind::Setting, key, value, clock),
-        Status::Delete => Answer::Refused(Refusal::BadTag),
+        Status::Delete => Err(Refusal::BadTag),
         Status::Ttl => local_node::write_node(overrides, Kind::SettingTtl, key, value, clock),
     }
 }
@@ -95,25 +111,29 @@ pub fn write_override(
     value: &[u8],
     wanted: Status,
     clock: u64,
-) -> Answer
+) -> Result<(), Refusal>
     ensures { Tells answer_told (lent_write_override (status_byte wanted) value.now clock key.now overrides.old)
         result overrides.new }
 {
-    if check_overrides(overrides) {
-        return write_good(overrides, key, value, wanted, clock);
+    if !check_overrides(overrides) {
+        return Err(Refusal::BadTable);
     }
-    Answer::Refused(Refusal::BadTable)
+    write_good(overrides, key, value, wanted, clock)
 }
 
 // Delete: the key's override is emptied and hidden, so that the shared record shows again, and scheduled from this time on. 14, 1, 3, 6.
-pub fn delete_override(overrides: &mut [u8], key: &[u8], clock: u64) -> Answer
+pub fn delete_override(overrides: &mut [u8], key: &[u8], clock: u64) -> Result<(), Refusal>
     ensures { Tells answer_told (lent_call_override (Deleting clock) key.now overrides.old) result overrides.new }
 {
     call(overrides, Kind::Deleting, key, b"", clock)
 }
 
 // Delete after TTL: the key's override keeps its value and shows, and is scheduled from this time on. 14, 1, 3, 6.
-pub fn delete_override_after_ttl(overrides: &mut [u8], key: &[u8], clock: u64) -> Answer
+pub fn delete_override_after_ttl(
+    overrides: &mut [u8],
+    key: &[u8],
+    clock: u64,
+) -> Result<(), Refusal>
     ensures { Tells answer_told (lent_call_override (DeletingAfterTtl clock) key.now overrides.old)
         result overrides.new }
 {
@@ -121,12 +141,12 @@ pub fn delete_override_after_ttl(overrides: &mut [u8], key: &[u8], clock: u64) -
 }
 
 // The scheduled overrides whose grace is over go. 14.
-pub fn remove_overrides(overrides: &mut [u8], clock: u64, grace: u64) -> Answer
+pub fn remove_overrides(overrides: &mut [u8], clock: u64, grace: u64) -> Result<(), Refusal>
     ensures { Tells answer_told (lent_remove_overrides clock grace overrides.old) result overrides.new }
 {
-    if check_overrides(overrides) {
-        removal::remove_due(overrides, clock, grace);
-        return Answer::Done;
+    if !check_overrides(overrides) {
+        return Err(Refusal::BadTable);
     }
-    Answer::Refused(Refusal::BadTable)
+    removal::remove_due(overrides, clock, grace);
+    Ok(())
 }

@@ -9,8 +9,8 @@ use native.Mathlib.Omega.{arith}
 use lib.ListN.{length, get_or, take, drop, length-append}
 use lib.Seq.{take-append_seam, drop-append_seam, get_or-take, get_or-drop}
 use Rattle.fields.specs.Choice.{keep, ◌∈◌, here, later}
-use Rattle.fields.specs.declared.Order.{Order}
-use Rattle.fields.specs.declared.Order.TheVariants.{Less, More}
+use Rattle.std.specs.declared.cmp.Ordering.{Ordering}
+use Rattle.std.specs.declared.cmp.Ordering.TheVariants.{Less, Greater}
 use Rattle.fields.proofs.Choice.{in-none, keep-from}
 use Rattle.fields.proofs.Ordered.{less-order, more-order}
 use Rattle.rules.specs.Node.{Rec}
@@ -55,7 +55,7 @@ pub record Cut (p : Profile) (q : Party) (l : List Rec) : Type 0 where
   pub is : l ≡ front ++ (seen_recs p q l ++ back)
   pub low : length front ≡ (sight_in p q l).low
   -- a key that the party may name comes behind the one and before the other
-  pub before : (k : List ℕ) → sees p q k ≡ true → (x : Rec) → x ∈ front → to_key k x ≡ More
+  pub before : (k : List ℕ) → sees p q k ≡ true → (x : Rec) → x ∈ front → to_key k x ≡ Greater
   pub behind : (k : List ℕ) → sees p q k ≡ true → (x : Rec) → x ∈ back → to_key k x ≡ Less
 
 pub cut : (p : Profile) (q : Party) (l : List Rec) → keys_rise l ≡ true → recs_formed p l ≡ true → Cut p q l
@@ -121,8 +121,8 @@ module _ (p : Profile) (q : Party) (l : List Rec) (s : keys_rise l ≡ true) (f 
 
 -- ---- a key that the party may name
 
-module _ {A : Type 0} (g : A → Order) where
-  past : (xs ys : List A) → ((x : A) → x ∈ xs → g x ≡ More) → find_by g (xs ++ ys) ≡ further (length xs) (find_by g ys)
+module _ {A : Type 0} (g : A → Ordering) where
+  past : (xs ys : List A) → ((x : A) → x ∈ xs → g x ≡ Greater) → find_by g (xs ++ ys) ≡ further (length xs) (find_by g ys)
   unfolding find_by
   past [] ys h = sym (further-none (find_by g ys))
   past (a ∷ xs) ys h =
@@ -133,7 +133,7 @@ module _ {A : Type 0} (g : A → Order) where
   short-of : (xs ys : List A) → ((y : A) → y ∈ ys → g y ≡ Less) → find_by g (xs ++ ys) ≡ find_by g xs
   unfolding find_by
   short-of [] [] h = refl
-  short-of [] (b ∷ ys) h = ap (λ (o : Order). seek o (find_by g ys)) (h b (here refl))
+  short-of [] (b ∷ ys) h = ap (λ (o : Ordering). seek o (find_by g ys)) (h b (here refl))
   short-of (a ∷ xs) ys h = ap (seek (g a)) (short-of xs ys h)
 
 pub seen-place : (p : Profile) (q : Party) (l : List Rec) → keys_rise l ≡ true → recs_formed p l ≡ true → (k : List ℕ) → sees p q k ≡ true

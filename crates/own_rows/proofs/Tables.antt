@@ -18,8 +18,9 @@ use Rattle.rules.specs.declared.Party.{Party}
 use Rattle.rules.proofs.Formed.{node-formed}
 use Rattle.table.specs.Tests.{recs_in}
 use Rattle.table_read.specs.Find.{span_in, start_from, node_start}
+use Rattle.std.specs.Prelude.{Option as Optional}
+use Rattle.std.specs.Prelude.{Some}
 use Rattle.table_read.specs.declared.Span.{Span}
-use Rattle.table_read.specs.declared.Span.TheVariants.{Held}
 use Rattle.table_read.proofs.Reading.{node-says}
 use Rattle.own_rows.specs.Sight.{seen_node, seen_held}
 
@@ -61,7 +62,7 @@ start_seen Shared q i t = alone-start q i (node_place 0) t
 
 -- ---- a call that reads one node, by a party: what it says of the node that is seen it says of the table that is seen
 
-module _ (n : ℕ) (l : List ℕ) (v : valid l ≡ true) {s : Span} (f : s ≡ span_in n l) {start end : ℕ} (h : s ≡ Held start end) where
+module _ (n : ℕ) (l : List ℕ) (v : valid l ≡ true) {s : (Optional Span)} (f : s ≡ span_in n l) {start end : ℕ} (h : s ≡ (Some (record { start = start; end = end }))) where
   -- the records of the node are in form
   pub lent-formed : (p : Profile) → profile_obeys p (decode l) ≡ true → recs_formed p (recs_in (take (end - start) (drop start l))) ≡ true
   lent-formed p g =

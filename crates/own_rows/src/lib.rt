@@ -32,6 +32,7 @@ fn building_count(node: &[u8]) -> usize
 {
     let mut low = 0;
     let mut high = fields::byte_at(node, layout::RECORD_COUNT);
+    // Nothing is counted here: the piece from `low` to `high` is halved.
     while low < high {
         let j = (low + high) / 2;
         let first = fields::byte_at(node, table::record_place(j) + layout::KEY);
@@ -51,8 +52,7 @@ fn shared_low(node: &[u8], party: Party) -> usize
 {
     match party {
         Party::Metering => building_count(node),
-        Party::Building => 0,
-        Party::Nobody => 0,
+        Party::Building | Party::Nobody => 0,
     }
 }
 
@@ -82,11 +82,7 @@ pub fn sight_of(node: &[u8], profile: Profile, party: Party) -> Sight
     ensures { result ≡ sight_in profile party (recs_in node.now) }
 {
     match profile {
-        Profile::Free => Sight {
-            low: 0,
-            count: fields::byte_at(node, layout::RECORD_COUNT),
-        },
-        Profile::Meter => Sight {
+        Profile::Free | Profile::Meter => Sight {
             low: 0,
             count: fields::byte_at(node, layout::RECORD_COUNT),
         },
@@ -100,8 +96,7 @@ pub fn low_of(node: &[u8], profile: Profile, party: Party) -> usize
     ensures { result ≡ (sight_in profile party (recs_in node.now)).low }
 {
     match profile {
-        Profile::Free => 0,
-        Profile::Meter => 0,
+        Profile::Free | Profile::Meter => 0,
         Profile::Shared => shared_low(node, party),
     }
 }

@@ -16,8 +16,8 @@ use Rattle.rules.specs.declared.Party.{Party}
 use Rattle.rules.specs.declared.Profile.TheVariants.{Shared}
 use Rattle.rules.specs.declared.Status.TheVariants.{Set, Ttl}
 use Rattle.rules.specs.declared.Refusal.TheVariants.{Exhausted, BadTag}
-use Rattle.rules.specs.declared.Answer.{Answer}
-use Rattle.rules.specs.declared.Answer.TheVariants.{Refused}
+use Rattle.std.specs.Prelude.{Err, Result}
+use Rattle.rules.specs.declared.Refusal.{Refusal}
 use Rattle.rules.proofs.Writing.{write_as_lem}
 use Rattle.parties.specs.Order.{call_by}
 use Rattle.parties.specs.TwoRuns.{same_party}
@@ -33,23 +33,23 @@ pub record Tidy (t : Table) : Type 0 where
   pub formed : profile_obeys Shared t ≡ true
 
 module _ (p : Party) (t : Table) (s : Tidy t) where
-  pub call-own : (c : Call) (i : ℕ) (k : List ℕ) → ((call_as Shared p c i k t).answer ≡ Refused Exhausted → ⊥) → Alike (own p) (call_as Shared p c i k t) (call_as Shared p c i k (view_table (own p) t))
+  pub call-own : (c : Call) (i : ℕ) (k : List ℕ) → ((call_as Shared p c i k t).answer ≡ Err Exhausted → ⊥) → Alike (own p) (call_as Shared p c i k t) (call_as Shared p c i k (view_table (own p) t))
   call-own c i k h =
       let x = shared-order p c i k t s.formed in
       let y = shared-order p c i k (view_table (own p) t) (view-obeys (own p) t s.formed) in
-      subst (λ (o : Outcome Answer). Alike (own p) o (call_as Shared p c i k (view_table (own p) t))) (sym x)
-      (subst (λ (v : Outcome Answer). Alike (own p) (call_by (own p) c i k t) v) (sym y)
-      (call-alike (own p) c i k t s.ordered (λ e. h (ap (λ (o : Outcome Answer). o.answer) x ∙ e))))
+      subst (λ (o : Outcome (Result (Unit {0}) Refusal)). Alike (own p) o (call_as Shared p c i k (view_table (own p) t))) (sym x)
+      (subst (λ (v : Outcome (Result (Unit {0}) Refusal)). Alike (own p) (call_by (own p) c i k t) v) (sym y)
+      (call-alike (own p) c i k t s.ordered (λ e. h (ap (λ (o : Outcome (Result (Unit {0}) Refusal)). o.answer) x ∙ e))))
 
-  pub write-own : (wanted : ℕ) (v : List ℕ) (now i : ℕ) (k : List ℕ) → ((write_as Shared p wanted v now i k t).answer ≡ Refused Exhausted → ⊥)
+  pub write-own : (wanted : ℕ) (v : List ℕ) (now i : ℕ) (k : List ℕ) → ((write_as Shared p wanted v now i k t).answer ≡ Err Exhausted → ⊥)
       → Alike (own p) (write_as Shared p wanted v now i k t) (write_as Shared p wanted v now i k (view_table (own p) t))
   unfolding write_as
   write-own wanted v now i k h = go (eqb wanted (status_byte Set)) (eqb wanted (status_byte Ttl)) h
     where
       go : (a b : Bool)
-          → ((pick a (call_as Shared p (Setting v) i k t) (pick b (call_as Shared p (SettingTtl v now) i k t) (gives (Refused BadTag) t))).answer ≡ Refused Exhausted → ⊥)
-          → Alike (own p) (pick a (call_as Shared p (Setting v) i k t) (pick b (call_as Shared p (SettingTtl v now) i k t) (gives (Refused BadTag) t)))
-          (pick a (call_as Shared p (Setting v) i k (view_table (own p) t)) (pick b (call_as Shared p (SettingTtl v now) i k (view_table (own p) t)) (gives (Refused BadTag) (view_table (own p) t))))
+          → ((pick a (call_as Shared p (Setting v) i k t) (pick b (call_as Shared p (SettingTtl v now) i k t) (gives (Err BadTag) t))).answer ≡ Err Exhausted → ⊥)
+          → Alike (own p) (pick a (call_as Shared p (Setting v) i k t) (pick b (call_as Shared p (SettingTtl v now) i k t) (gives (Err BadTag) t)))
+          (pick a (call_as Shared p (Setting v) i k (view_table (own p) t)) (pick b (call_as Shared p (SettingTtl v now) i k (view_table (own p) t)) (gives (Err BadTag) (view_table (own p) t))))
       go true b h = call-own (Setting v) i k h
       go false true h = call-own (SettingTtl v now) i k h
       go false false h = record { answers = refl; views = table-twice (own p) t }
@@ -58,7 +58,7 @@ module _ (p : Party) (t : Table) (s : Tidy t) where
   module _ (q : Party) (other : same_party p q ≡ false) where
     pub call_passes : (c : Call) (i : ℕ) (k : List ℕ) → view_table (own p) (call_as Shared q c i k t).table ≡ view_table (own p) t
     call_passes c i k =
-        ap (λ (o : Outcome Answer). view_table (own p) o.table) (shared-order q c i k t s.formed) ∙ call-other (own p) (own q) (apart p q other) c i k t
+        ap (λ (o : Outcome (Result (Unit {0}) Refusal)). view_table (own p) o.table) (shared-order q c i k t s.formed) ∙ call-other (own p) (own q) (apart p q other) c i k t
 
     pub write-passes : (wanted : ℕ) (v : List ℕ) (now i : ℕ) (k : List ℕ) → view_table (own p) (write_as Shared q wanted v now i k t).table ≡ view_table (own p) t
     write-passes wanted v now i k =
@@ -66,7 +66,7 @@ module _ (p : Party) (t : Table) (s : Tidy t) where
 
   pub call-tidy : (c : Call) (i : ℕ) (k : List ℕ) → Tidy (call_as Shared p c i k t).table
   call-tidy c i k =
-      subst (λ (o : Outcome Answer). Tidy o.table) (sym (shared-order p c i k t s.formed))
+      subst (λ (o : Outcome (Result (Unit {0}) Refusal)). Tidy o.table) (sym (shared-order p c i k t s.formed))
       (record { ordered = call-ordered (own p) c i k t s.ordered; formed = call-obeys p c i k t s.ordered s.formed })
 
   pub write-tidy : (wanted : ℕ) (v : List ℕ) (now i : ℕ) (k : List ℕ) → Tidy (write_as Shared p wanted v now i k t).table

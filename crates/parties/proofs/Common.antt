@@ -17,7 +17,8 @@ use Rattle.rules.specs.Lent.{remember_on}
 use Rattle.rules.specs.declared.Heartbeat.{Heartbeat}
 use Rattle.rules.specs.declared.Profile.TheVariants.{Shared}
 use Rattle.rules.specs.declared.Refusal.TheVariants.{NoNode, NinthNode, Exhausted}
-use Rattle.rules.specs.declared.Answer.TheVariants.{Done, Refused}
+use Rattle.std.specs.Prelude.{Err}
+use Rattle.rules.specs.Results.{done}
 use Rattle.rules.proofs.Formed.{add-formed, drop-formed, node-obeys, removed-formed, set-formed}
 use Rattle.parties.proofs.Tables.{view_node, view_table, view_held, node-view, set_view, node-twice, table-twice, numbers-view, length-view, add-view, drop-view, InOrder, node-ordered, set-ordered, add-ordered, drop-ordered, remove-ordered}
 use Rattle.parties.proofs.Calls.{Tidy}
@@ -31,13 +32,13 @@ module _ (mine : List ℕ → Bool) where
   pub add-even : (i : ℕ) (t : Table) → Even mine (add i t) (add i (view_table mine t))
   unfolding add
   add-even i t =
-      subst (λ (l : List ℕ). Even mine (add i t) (pick (among i l) (gives Done (view_table mine t)) (pick (ltb (length (view_table mine t)) max_nodes) (gives Done (add_node i (view_table mine t))) (gives (Refused NinthNode) (view_table mine t)))))
+      subst (λ (l : List ℕ). Even mine (add i t) (pick (among i l) (gives done (view_table mine t)) (pick (ltb (length (view_table mine t)) max_nodes) (gives done (add_node i (view_table mine t))) (gives (Err NinthNode) (view_table mine t)))))
       (sym (numbers-view mine t))
-      (subst (λ (n : ℕ). Even mine (add i t) (pick (among i (numbers_of t)) (gives Done (view_table mine t)) (pick (ltb n max_nodes) (gives Done (add_node i (view_table mine t))) (gives (Refused NinthNode) (view_table mine t)))))
+      (subst (λ (n : ℕ). Even mine (add i t) (pick (among i (numbers_of t)) (gives done (view_table mine t)) (pick (ltb n max_nodes) (gives done (add_node i (view_table mine t))) (gives (Err NinthNode) (view_table mine t)))))
       (sym (length-view mine t)) (go (among i (numbers_of t)) (ltb (length t) max_nodes)))
     where
-      go : (a b : Bool) → Even mine (pick a (gives Done t) (pick b (gives Done (add_node i t)) (gives (Refused NinthNode) t)))
-          (pick a (gives Done (view_table mine t)) (pick b (gives Done (add_node i (view_table mine t))) (gives (Refused NinthNode) (view_table mine t))))
+      go : (a b : Bool) → Even mine (pick a (gives done t) (pick b (gives done (add_node i t)) (gives (Err NinthNode) t)))
+          (pick a (gives done (view_table mine t)) (pick b (gives done (add_node i (view_table mine t))) (gives (Err NinthNode) (view_table mine t))))
       go true b = record { answers = refl; views = table-twice mine t }
       go false true = record { answers = refl; views = add-view mine i (view_table mine t) ∙ ap (add_node i) (table-twice mine t) ∙ sym (add-view mine i t) }
       go false false = record { answers = refl; views = table-twice mine t }
@@ -45,10 +46,10 @@ module _ (mine : List ℕ → Bool) where
   pub drop-even : (i : ℕ) (t : Table) → Even mine (remove_node i t) (remove_node i (view_table mine t))
   unfolding remove_node
   drop-even i t =
-      subst (λ (l : List ℕ). Even mine (remove_node i t) (pick (among i l) (gives Done (drop_node i (view_table mine t))) (gives (Refused NoNode) (view_table mine t)))) (sym (numbers-view mine t))
+      subst (λ (l : List ℕ). Even mine (remove_node i t) (pick (among i l) (gives done (drop_node i (view_table mine t))) (gives (Err NoNode) (view_table mine t)))) (sym (numbers-view mine t))
       (go (among i (numbers_of t)))
     where
-      go : (a : Bool) → Even mine (pick a (gives Done (drop_node i t)) (gives (Refused NoNode) t)) (pick a (gives Done (drop_node i (view_table mine t))) (gives (Refused NoNode) (view_table mine t)))
+      go : (a : Bool) → Even mine (pick a (gives done (drop_node i t)) (gives (Err NoNode) t)) (pick a (gives done (drop_node i (view_table mine t))) (gives (Err NoNode) (view_table mine t)))
       go true = record { answers = refl; views = drop-view mine i (view_table mine t) ∙ ap (drop_node i) (table-twice mine t) ∙ sym (drop-view mine i t) }
       go false = record { answers = refl; views = table-twice mine t }
 
@@ -82,8 +83,8 @@ module _ (mine : List ℕ → Bool) where
       go none = record { answers = refl; views = table-twice mine t }
       go (some n) = at (ltb n.heartbeat.0 top)
         where
-          at : (b : Bool) → Even mine (pick b (gives Done (set_node i (with_heartbeat (beats (n.heartbeat.0 + 1)) n) t)) (gives (Refused Exhausted) t))
-              (pick b (gives Done (set_node i (with_heartbeat (beats (n.heartbeat.0 + 1)) (view_node mine n)) (view_table mine t))) (gives (Refused Exhausted) (view_table mine t)))
+          at : (b : Bool) → Even mine (pick b (gives done (set_node i (with_heartbeat (beats (n.heartbeat.0 + 1)) n) t)) (gives (Err Exhausted) t))
+              (pick b (gives done (set_node i (with_heartbeat (beats (n.heartbeat.0 + 1)) (view_node mine n)) (view_table mine t))) (gives (Err Exhausted) (view_table mine t)))
           at true = record { answers = refl; views = beat-view i (beats (n.heartbeat.0 + 1)) n t }
           at false = record { answers = refl; views = table-twice mine t }
 
@@ -93,7 +94,7 @@ pub adding-tidy : (i : ℕ) (t : Table) → Tidy t → Tidy (add i t).table
 unfolding add
 adding-tidy i t s = record { ordered = go (among i (numbers_of t)) (ltb (length t) max_nodes); formed = add-formed Shared i t s.formed }
   where
-    go : (a b : Bool) → InOrder (pick a (gives Done t) (pick b (gives Done (add_node i t)) (gives (Refused NinthNode) t))).table
+    go : (a b : Bool) → InOrder (pick a (gives done t) (pick b (gives done (add_node i t)) (gives (Err NinthNode) t))).table
     go true b = s.ordered
     go false true = add-ordered i t s.ordered
     go false false = s.ordered
@@ -102,7 +103,7 @@ pub dropping-tidy : (i : ℕ) (t : Table) → Tidy t → Tidy (remove_node i t).
 unfolding remove_node
 dropping-tidy i t s = record { ordered = go (among i (numbers_of t)); formed = drop-formed Shared i t s.formed }
   where
-    go : (a : Bool) → InOrder (pick a (gives Done (drop_node i t)) (gives (Refused NoNode) t)).table
+    go : (a : Bool) → InOrder (pick a (gives done (drop_node i t)) (gives (Err NoNode) t)).table
     go true = drop-ordered i t s.ordered
     go false = s.ordered
 
@@ -128,7 +129,7 @@ pub beating-tidy : (i : ℕ) (t : Table) → Tidy t → Tidy (local_beat i t).ta
 unfolding local_beat
 beating-tidy i t s = go (node_of i t) refl
   where
-    at : (n : Node) → node_of i t ≡ some n → (b : Bool) → Tidy (pick b (gives Done (set_node i (with_heartbeat (beats (n.heartbeat.0 + 1)) n) t)) (gives (Refused Exhausted) t)).table
+    at : (n : Node) → node_of i t ≡ some n → (b : Bool) → Tidy (pick b (gives done (set_node i (with_heartbeat (beats (n.heartbeat.0 + 1)) n) t)) (gives (Err Exhausted) t)).table
     at n q true = beaten-tidy i (beats (n.heartbeat.0 + 1)) n t q s
     at n q false = s
 

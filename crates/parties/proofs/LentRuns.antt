@@ -17,18 +17,13 @@ use Rattle.rules.specs.Profile.{profile_obeys}
 use Rattle.rules.specs.Whole.{Whole, decode_whole, encode_whole, obeys_whole, valid_whole, with_table}
 use Rattle.rules.specs.Local.{NotFound, Outcome, call_as, write_as, gc, offer, local_beat, lookup_as, prefixed_as}
 use Rattle.rules.specs.Lent.{add_whole, remove_whole, from_table, lent_removed, on_table, on_whole, remembered_as, stored_in}
-use Rattle.rules.specs.declared.Answer.{Answer}
-use Rattle.rules.specs.declared.Answer.TheVariants as plain
-use Rattle.rules.specs.declared.Listed.{Listed}
-use Rattle.rules.specs.declared.Listed.TheVariants as listed
-use Rattle.rules.specs.declared.Offered.{Offered}
-use Rattle.rules.specs.declared.Offered.TheVariants as offered
+use Rattle.std.specs.Prelude.{Err, Option, Result}
+use Rattle.rules.specs.declared.Heartbeat.{Heartbeat}
+use Rattle.rules.specs.declared.Refusal.{Refusal}
 use Rattle.rules.specs.declared.Party.{Party}
 use Rattle.rules.specs.declared.Profile.{Profile}
 use Rattle.rules.specs.declared.Profile.TheVariants.{Shared}
 use Rattle.rules.specs.declared.Refusal.TheVariants.{BadTable}
-use Rattle.rules.specs.declared.Remembered.{Remembered}
-use Rattle.rules.specs.declared.Remembered.TheVariants as remembered
 use Rattle.rules.proofs.Calls.{beat-keeps, call-keeps, gc-keeps, numbers-beat, numbers-call, numbers-offer, offer-keeps}
 use Rattle.rules.proofs.Keeps.{ClockFits}
 use Rattle.rules.proofs.Memories.{add-keeps-whole, remove-keeps-whole, same_nodes, whole-table}
@@ -99,34 +94,34 @@ module _ (w : Whole) (o : obeys_whole w ≡ true) where
   from-profile bad rule = from-whole w o bad (rule (decode_whole l).kind.profile) ∙ ap (λ (f : Profile). rule f w.table) same-profile
 
   pub lent-leaves : {Ask : Type 0} (e : Event Ask) → lent_happen e (encode_whole w) ≡ encode_whole (happen e w)
-  lent-leaves (Writing q wanted v now i k) = ap (λ (g : Given Answer (List ℕ)). g.lent) (on-profile (plain.Refused BadTable) (λ f. write_as f q wanted v now i k))
-  lent-leaves (Calling q i k c) = ap (λ (g : Given Answer (List ℕ)). g.lent) (on-profile (plain.Refused BadTable) (λ f. call_as f q c i k))
+  lent-leaves (Writing q wanted v now i k) = ap (λ (g : Given (Result (Unit {0}) Refusal) (List ℕ)). g.lent) (on-profile (Err BadTable) (λ f. write_as f q wanted v now i k))
+  lent-leaves (Calling q i k c) = ap (λ (g : Given (Result (Unit {0}) Refusal) (List ℕ)). g.lent) (on-profile (Err BadTable) (λ f. call_as f q c i k))
   lent-leaves (Asking q x) = refl
-  lent-leaves (Removing now grace) = ap (λ (g : Given Answer (List ℕ)). g.lent) (on-whole w o (plain.Refused BadTable) (gc now grace))
-  lent-leaves (Adding i) = ap (λ (g : Given Answer (List ℕ)). g.lent) (whole-whole w o (plain.Refused BadTable) (add_whole i))
-  lent-leaves (Dropping i) = ap (λ (g : Given Answer (List ℕ)). g.lent) (whole-whole w o (plain.Refused BadTable) (remove_whole i))
+  lent-leaves (Removing now grace) = ap (λ (g : Given (Result (Unit {0}) Refusal) (List ℕ)). g.lent) (on-whole w o (Err BadTable) (gc now grace))
+  lent-leaves (Adding i) = ap (λ (g : Given (Result (Unit {0}) Refusal) (List ℕ)). g.lent) (whole-whole w o (Err BadTable) (add_whole i))
+  lent-leaves (Dropping i) = ap (λ (g : Given (Result (Unit {0}) Refusal) (List ℕ)). g.lent) (whole-whole w o (Err BadTable) (remove_whole i))
   lent-leaves (Remembering i) = refl
-  lent-leaves (Offering i h) = ap (λ (g : Given Offered (List ℕ)). g.lent) (on-whole w o (offered.Refused BadTable) (offer i h))
-  lent-leaves (Beating i) = ap (λ (g : Given Answer (List ℕ)). g.lent) (on-whole w o (plain.Refused BadTable) (local_beat i))
+  lent-leaves (Offering i h) = ap (λ (g : Given (Result Bool Refusal) (List ℕ)). g.lent) (on-whole w o (Err BadTable) (offer i h))
+  lent-leaves (Beating i) = ap (λ (g : Given (Result (Unit {0}) Refusal) (List ℕ)). g.lent) (on-whole w o (Err BadTable) (local_beat i))
 
   removed-says : (i : ℕ) → lent_removed i (encode_whole w) ≡ remembered_as (heartbeat_of i w.memory)
   unfolding lent_removed
   removed-says i =
-      ap (λ (b : Bool). pick b (remembered_as (heartbeat_of i (decode_whole l).memory)) (remembered.Refused BadTable)) (valid-encode-whole w o)
+      ap (λ (b : Bool). pick b (remembered_as (heartbeat_of i (decode_whole l).memory)) (Err BadTable)) (valid-encode-whole w o)
       ∙ ap (λ (u : Whole). remembered_as (heartbeat_of i u.memory)) (decode-encode-whole w o)
 
 module _ {Ask : Type 0} (lent_tells : LentTelling Ask) (tells : Telling Ask) (lends : Lends lent_tells tells) where
   pub lent_says : (w : Whole) → obeys_whole w ≡ true → (e : Event Ask) → lent_said lent_tells e (encode_whole w) ≡ said tells e w
   unfolding gc
-  lent_says w o (Writing q wanted v now i k) = ap (λ (g : Given Answer (List ℕ)). says (answer_told g.answer) []) (on-profile w o (plain.Refused BadTable) (λ f. write_as f q wanted v now i k))
-  lent_says w o (Calling q i k c) = ap (λ (g : Given Answer (List ℕ)). says (answer_told g.answer) []) (on-profile w o (plain.Refused BadTable) (λ f. call_as f q c i k))
+  lent_says w o (Writing q wanted v now i k) = ap (λ (g : Given (Result (Unit {0}) Refusal) (List ℕ)). says (answer_told g.answer) []) (on-profile w o (Err BadTable) (λ f. write_as f q wanted v now i k))
+  lent_says w o (Calling q i k c) = ap (λ (g : Given (Result (Unit {0}) Refusal) (List ℕ)). says (answer_told g.answer) []) (on-profile w o (Err BadTable) (λ f. call_as f q c i k))
   lent_says w o (Asking q x) = lends q x w o
-  lent_says w o (Removing now grace) = ap (λ (g : Given Answer (List ℕ)). says (answer_told g.answer) []) (on-whole w o (plain.Refused BadTable) (gc now grace))
-  lent_says w o (Adding i) = ap (λ (g : Given Answer (List ℕ)). says (answer_told g.answer) []) (whole-whole w o (plain.Refused BadTable) (add_whole i))
-  lent_says w o (Dropping i) = ap (λ (g : Given Answer (List ℕ)). says (answer_told g.answer) []) (whole-whole w o (plain.Refused BadTable) (remove_whole i))
-  lent_says w o (Remembering i) = ap (λ (a : Remembered). says (remembered_told a) []) (removed-says w o i)
-  lent_says w o (Offering i h) = ap (λ (g : Given Offered (List ℕ)). says (offered_told g.answer) []) (on-whole w o (offered.Refused BadTable) (offer i h))
-  lent_says w o (Beating i) = ap (λ (g : Given Answer (List ℕ)). says (answer_told g.answer) []) (on-whole w o (plain.Refused BadTable) (local_beat i))
+  lent_says w o (Removing now grace) = ap (λ (g : Given (Result (Unit {0}) Refusal) (List ℕ)). says (answer_told g.answer) []) (on-whole w o (Err BadTable) (gc now grace))
+  lent_says w o (Adding i) = ap (λ (g : Given (Result (Unit {0}) Refusal) (List ℕ)). says (answer_told g.answer) []) (whole-whole w o (Err BadTable) (add_whole i))
+  lent_says w o (Dropping i) = ap (λ (g : Given (Result (Unit {0}) Refusal) (List ℕ)). says (answer_told g.answer) []) (whole-whole w o (Err BadTable) (remove_whole i))
+  lent_says w o (Remembering i) = ap (λ (a : (Result (Option Heartbeat) Refusal)). says (remembered_told a) []) (removed-says w o i)
+  lent_says w o (Offering i h) = ap (λ (g : Given (Result Bool Refusal) (List ℕ)). says (offered_told g.answer) []) (on-whole w o (Err BadTable) (offer i h))
+  lent_says w o (Beating i) = ap (λ (g : Given (Result (Unit {0}) Refusal) (List ℕ)). says (answer_told g.answer) []) (on-whole w o (Err BadTable) (local_beat i))
 
   -- a run
   record Same (p : Party) (es : List (Event Ask)) (w : Whole) : Type 0 where
@@ -168,15 +163,15 @@ module _ (l : List ℕ) (bad : valid_whole l ≡ false) where
   no_whole b rule = ap (λ (x : Bool). pick x (given (rule (decode_whole l)).answer (encode_whole (rule (decode_whole l)).lent)) (given b l)) bad
 
   bad-leaves : {Ask : Type 0} (e : Event Ask) → lent_happen e l ≡ l
-  bad-leaves (Writing q wanted v now i k) = ap (λ (g : Given Answer (List ℕ)). g.lent) (no_table (plain.Refused BadTable) (write_as (decode_whole l).kind.profile q wanted v now i k))
-  bad-leaves (Calling q i k c) = ap (λ (g : Given Answer (List ℕ)). g.lent) (no_table (plain.Refused BadTable) (call_as (decode_whole l).kind.profile q c i k))
+  bad-leaves (Writing q wanted v now i k) = ap (λ (g : Given (Result (Unit {0}) Refusal) (List ℕ)). g.lent) (no_table (Err BadTable) (write_as (decode_whole l).kind.profile q wanted v now i k))
+  bad-leaves (Calling q i k c) = ap (λ (g : Given (Result (Unit {0}) Refusal) (List ℕ)). g.lent) (no_table (Err BadTable) (call_as (decode_whole l).kind.profile q c i k))
   bad-leaves (Asking q x) = refl
-  bad-leaves (Removing now grace) = ap (λ (g : Given Answer (List ℕ)). g.lent) (no_table (plain.Refused BadTable) (gc now grace))
-  bad-leaves (Adding i) = ap (λ (g : Given Answer (List ℕ)). g.lent) (no_whole (plain.Refused BadTable) (add_whole i))
-  bad-leaves (Dropping i) = ap (λ (g : Given Answer (List ℕ)). g.lent) (no_whole (plain.Refused BadTable) (remove_whole i))
+  bad-leaves (Removing now grace) = ap (λ (g : Given (Result (Unit {0}) Refusal) (List ℕ)). g.lent) (no_table (Err BadTable) (gc now grace))
+  bad-leaves (Adding i) = ap (λ (g : Given (Result (Unit {0}) Refusal) (List ℕ)). g.lent) (no_whole (Err BadTable) (add_whole i))
+  bad-leaves (Dropping i) = ap (λ (g : Given (Result (Unit {0}) Refusal) (List ℕ)). g.lent) (no_whole (Err BadTable) (remove_whole i))
   bad-leaves (Remembering i) = refl
-  bad-leaves (Offering i h) = ap (λ (g : Given Offered (List ℕ)). g.lent) (no_table (offered.Refused BadTable) (offer i h))
-  bad-leaves (Beating i) = ap (λ (g : Given Answer (List ℕ)). g.lent) (no_table (plain.Refused BadTable) (local_beat i))
+  bad-leaves (Offering i h) = ap (λ (g : Given (Result Bool Refusal) (List ℕ)). g.lent) (no_table (Err BadTable) (offer i h))
+  bad-leaves (Beating i) = ap (λ (g : Given (Result (Unit {0}) Refusal) (List ℕ)). g.lent) (no_table (Err BadTable) (local_beat i))
 
   bad-after : {Ask : Type 0} (es : List (Event Ask)) → lent_after es l ≡ l
   unfolding lent_after
@@ -235,7 +230,7 @@ module _ {Ask : Type 0} (lent_tells : LentTelling Ask) (tells : Telling Ask) (le
 pub readings-lent : Lends lent_reading_said reading_said
 readings-lent p (Lookup i k) w o = ap found_said (from-profile w o (NotFound BadTable) (λ f. lookup_as f p i k))
 readings-lent p (Listing i k list) w o =
-    ap (λ (g : Given Listed (List ℕ)). says (listed_told g.answer) (g.lent ∷ [])) (from-profile w o (given (listed.Refused BadTable) list) (λ f t. prefixed_as f p i k t list))
+    ap (λ (g : Given (Result ℕ Refusal) (List ℕ)). says (listed_told g.answer) (g.lent ∷ [])) (from-profile w o (given (Err BadTable) list) (λ f t. prefixed_as f p i k t list))
 readings-lent p (Counting i) w o = from-profile w o _ (λ f. reading_said f p (Counting i))
 readings-lent p (RecordAt i j) w o = from-profile w o _ (λ f. reading_said f p (RecordAt i j))
 readings-lent p (RecordOf i k) w o = from-profile w o _ (λ f. reading_said f p (RecordOf i k))

@@ -16,8 +16,8 @@ use Rattle.rules.specs.Table.{Table, node_of}
 use Rattle.rules.specs.Party.{own, alone, of_keys}
 use Rattle.rules.specs.Local.{Found, NotFound, found_of, list_into, lookup, lookup_as, lookup_on, prefixed, prefixed_as, prefix_on, unless_other}
 use Rattle.rules.specs.declared.Refusal.TheVariants.{TooLong, OtherParty}
-use Rattle.rules.specs.declared.Listed.{Listed}
-use Rattle.rules.specs.declared.Listed.TheVariants as listed
+use Rattle.std.specs.Prelude.{Err, Result}
+use Rattle.rules.specs.declared.Refusal.{Refusal}
 use Rattle.parties.specs.Readings.{Lookup, Listing, Counting, RecordAt, RecordOf, found_said, count_said, first_said, at_said, key_said, of_said, reading_said}
 use Rattle.parties.specs.TwoRuns.{Said, says, Blind, unversioned, unversioned_each, versionless_node, versionless}
 use Rattle.parties.proofs.Views.{view-own, view-is, bare}
@@ -82,7 +82,7 @@ lookup-blind k (some n) = ap (λ (x : Option (List ℕ)). pick (leb (length k) m
 
 pub prefix-blind : (k : List ℕ) (o : Option Node) (l : List ℕ) → prefix_on k (bare_held o) l ≡ prefix_on k o l
 prefix-blind k none l = refl
-prefix-blind k (some n) l = ap (λ (x : List ℕ). pick (leb (length k) max_key) (list_into x l) (given (listed.Refused TooLong) l)) (hits-blind k 0 n.recs)
+prefix-blind k (some n) l = ap (λ (x : List ℕ). pick (leb (length k) max_key) (list_into x l) (given (Err TooLong) l)) (hits-blind k 0 n.recs)
 
 count-blind : (o : Option Node) → count_said (bare_held o) ≡ count_said o
 count-blind none = refl
@@ -122,7 +122,7 @@ pub reading-blind : Blind reading_said
 unfolding lookup_as lookup prefixed_as prefixed
 reading-blind p (Lookup i k) t = ap (λ (x : Found). found_said (unless_other (own p k) x)) (blind-node (lookup_on k) (lookup-blind k) i (own p) t)
 reading-blind p (Listing i k l) t =
-    ap (λ (g : Given Listed (List ℕ)). says (listed_told g.answer) (g.lent ∷ [])) (blind-node (λ o. prefix_on k o l) (λ o. prefix-blind k o l) i (own p) t)
+    ap (λ (g : Given (Result ℕ Refusal) (List ℕ)). says (listed_told g.answer) (g.lent ∷ [])) (blind-node (λ o. prefix_on k o l) (λ o. prefix-blind k o l) i (own p) t)
 reading-blind p (Counting i) t = blind-node count_said count-blind i (own p) t
 reading-blind p (RecordAt i j) t = blind-node (at_said j) (place-blind j) i (own p) t
 reading-blind p (RecordOf i k) t = blind-node (of_said (own p k) k) (key-blind (own p k) k) i (own p) t

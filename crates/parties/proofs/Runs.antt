@@ -19,9 +19,8 @@ use Rattle.rules.specs.declared.Party.{Party}
 use Rattle.rules.specs.declared.Profile.{Profile}
 use Rattle.rules.specs.declared.Profile.TheVariants.{Shared}
 use Rattle.rules.specs.declared.Refusal.TheVariants.{Exhausted}
-use Rattle.rules.specs.declared.Answer.{Answer}
-use Rattle.rules.specs.declared.Answer.TheVariants.{Refused}
-use Rattle.rules.specs.declared.Offered.{Offered}
+use Rattle.std.specs.Prelude.{Err, Result}
+use Rattle.rules.specs.declared.Refusal.{Refusal}
 use Rattle.rules.proofs.Memories.{whole-table, whole-profile}
 use Rattle.parties.specs.TwoRuns.{Event, Writing, Calling, Asking, Removing, Adding, Dropping, Remembering, Offering, Beating, happen, happen_as, after, Said, says, said, said_as, concerns, changes, stripped, heard, Unspent, NoSix, view, Telling, Blind, heard_alone, after_alone}
 use Rattle.parties.proofs.Apart.{same-is}
@@ -45,9 +44,9 @@ obeys-sound w s o =
 -- ---- one event
 
 -- Exhausted is told as 6
-six : (a : Answer) → ((answer_told a).number ≡ 6 → ⊥) → a ≡ Refused Exhausted → ⊥
+six : (a : (Result (Unit {0}) Refusal)) → ((answer_told a).number ≡ 6 → ⊥) → a ≡ Err Exhausted → ⊥
 unfolding answer_told
-six a h e = h (ap (λ (x : Answer). (answer_told x).number) e)
+six a h e = h (ap (λ (x : (Result (Unit {0}) Refusal)). (answer_told x).number) e)
 
 -- what a party has, in one pass
 abbrev viewed : (p : Party) (w : Whole) → Whole
@@ -117,9 +116,9 @@ module _ {Ask : Type 0} (tells : Telling Ask) (blind : Blind tells) where
     pub leaves_so : has (happen_as f e (has w)) ≡ has (happen_as f e w)
 
   module _ (p : Party) (w : Whole) where
-    from-alike : (o v : Outcome Answer) → Alike (own p) o v
+    from-alike : (o v : Outcome (Result (Unit {0}) Refusal)) → Alike (own p) o v
         → (says (answer_told v.answer) [] ≡ says (answer_told o.answer) []) × (viewed p (with_table v.table (viewed p w)) ≡ viewed p (with_table o.table w))
-    from-alike o v a = (ap (λ (x : Answer). says (answer_told x) []) a.answers, ap (λ (t : Table). with_table t w) a.views)
+    from-alike o v a = (ap (λ (x : (Result (Unit {0}) Refusal)). says (answer_told x) []) a.answers, ap (λ (t : Table). with_table t w) a.views)
 
     written : (wanted : ℕ) (v : List ℕ) (now i : ℕ) (k : List ℕ) → Tidy w.table → ((said_as tells Shared (Writing p wanted v now i k) w).told.number ≡ 6 → ⊥) → Step Shared (viewed p) (Writing p wanted v now i k) w
     written wanted v now i k s h =
@@ -145,8 +144,8 @@ module _ {Ask : Type 0} (tells : Telling Ask) (blind : Blind tells) where
     added i =
         let x = add-even (own p) i w.table in
         record {
-          says_so = ap (λ (a : Answer). says (answer_told a) []) x.answers;
-          leaves_so = ap₂ (λ (a : Answer) (t : Table). record { kind = w.kind; memory = forget_on a i w.memory; table = t }) x.answers x.views;
+          says_so = ap (λ (a : (Result (Unit {0}) Refusal)). says (answer_told a) []) x.answers;
+          leaves_so = ap₂ (λ (a : (Result (Unit {0}) Refusal)) (t : Table). record { kind = w.kind; memory = forget_on a i w.memory; table = t }) x.answers x.views;
         }
 
     dropped : (i : ℕ) → Step Shared (viewed p) (Dropping i) w
@@ -154,7 +153,7 @@ module _ {Ask : Type 0} (tells : Telling Ask) (blind : Blind tells) where
     dropped i =
         let x = drop-even (own p) i w.table in
         record {
-          says_so = ap (λ (a : Answer). says (answer_told a) []) x.answers;
+          says_so = ap (λ (a : (Result (Unit {0}) Refusal)). says (answer_told a) []) x.answers;
           leaves_so = ap₂ (λ (m : Memory) (t : Table). record { kind = w.kind; memory = m; table = t }) (remember-even (own p) i w.table w.memory) x.views;
         }
 
@@ -164,12 +163,12 @@ module _ {Ask : Type 0} (tells : Telling Ask) (blind : Blind tells) where
     offered : (i : ℕ) (h : Heartbeat) → Step Shared (viewed p) (Offering i h) w
     offered i h =
         let x = offer-even (own p) i h w.table in
-        record { says_so = ap (λ (a : Offered). says (offered_told a) []) x.answers; leaves_so = ap (λ (t : Table). with_table t w) x.views }
+        record { says_so = ap (λ (a : (Result Bool Refusal)). says (offered_told a) []) x.answers; leaves_so = ap (λ (t : Table). with_table t w) x.views }
 
     beaten : (i : ℕ) → Step Shared (viewed p) (Beating i) w
     beaten i =
         let x = beat-even (own p) i w.table in
-        record { says_so = ap (λ (a : Answer). says (answer_told a) []) x.answers; leaves_so = ap (λ (t : Table). with_table t w) x.views }
+        record { says_so = ap (λ (a : (Result (Unit {0}) Refusal)). says (answer_told a) []) x.answers; leaves_so = ap (λ (t : Table). with_table t w) x.views }
 
     shared_step : (e : Event Ask) → Tidy w.table → concerns p e ≡ true → (changes e ≡ true → (said_as tells Shared e w).told.number ≡ 6 → ⊥) → Step Shared (viewed p) e w
     shared_step (Writing q wanted v now i k) s c h =

@@ -14,8 +14,8 @@ use Rattle.rules.specs.Node.{Rec, Node, Change, Call, Setting, SettingTtl, Delet
 use Rattle.rules.specs.Table.{Table, node_of, set_node}
 use Rattle.rules.specs.Local.{Outcome, answer_of}
 use Rattle.rules.specs.declared.Refusal.TheVariants.{TooLong, NodeFull, Exhausted, OtherParty}
-use Rattle.rules.specs.declared.Answer.{Answer}
-use Rattle.rules.specs.declared.Answer.TheVariants.{Refused}
+use Rattle.std.specs.Prelude.{Err, Result}
+use Rattle.rules.specs.declared.Refusal.{Refusal}
 use Rattle.rules.proofs.Records.{Sorted, sorted-store}
 use Rattle.parties.specs.Order.{full_for, allowed_for, decide_for, call_for, call_by}
 use Rattle.parties.specs.TwoRuns.{unversioned}
@@ -131,15 +131,15 @@ module _ (mine : List ℕ → Bool) where
 
   -- ---- a call of the party's own
 
-  pub record Alike (o v : Outcome Answer) : Type 0 where
+  pub record Alike (o v : Outcome (Result (Unit {0}) Refusal)) : Type 0 where
     pub answers : v.answer ≡ o.answer
     pub views : view_table mine v.table ≡ view_table mine o.table
 
-  pub call-alike : (c : Call) (i : ℕ) (k : List ℕ) (t : Table) → InOrder t → ((call_by mine c i k t).answer ≡ Refused Exhausted → ⊥) → Alike (call_by mine c i k t) (call_by mine c i k (view_table mine t))
+  pub call-alike : (c : Call) (i : ℕ) (k : List ℕ) (t : Table) → InOrder t → ((call_by mine c i k t).answer ≡ Err Exhausted → ⊥) → Alike (call_by mine c i k t) (call_by mine c i k (view_table mine t))
   unfolding call_by
   call-alike c i k t s h = subst (λ (o : Option Node). Alike (call_for mine c i k (node_of i t) t) (call_for mine c i k o (view_table mine t))) (sym (node-view mine i t)) (go (node_of i t) refl h)
     where
-      go : (o : Option Node) → node_of i t ≡ o → ((call_for mine c i k o t).answer ≡ Refused Exhausted → ⊥) → Alike (call_for mine c i k o t) (call_for mine c i k (view_held mine o) (view_table mine t))
+      go : (o : Option Node) → node_of i t ≡ o → ((call_for mine c i k o t).answer ≡ Err Exhausted → ⊥) → Alike (call_for mine c i k o t) (call_for mine c i k (view_held mine o) (view_table mine t))
       go none q h = record { answers = refl; views = table-twice mine t }
       go (some n) q h = at (decide-view c k n)
         where

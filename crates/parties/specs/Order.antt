@@ -10,8 +10,8 @@ use Rattle.rules.specs.Table.{Table, node_of, set_node}
 use Rattle.rules.specs.Party.{of_keys}
 use Rattle.rules.specs.Local.{Outcome, gives, answer_of}
 use Rattle.rules.specs.declared.Refusal.TheVariants.{TooLong, NoNode, NodeFull, Exhausted, OtherParty}
-use Rattle.rules.specs.declared.Answer.{Answer}
-use Rattle.rules.specs.declared.Answer.TheVariants.{Refused}
+use Rattle.std.specs.Prelude.{Err, Result}
+use Rattle.rules.specs.declared.Refusal.{Refusal}
 
 -- the key would be the party's 17th
 abbrev pub full_for : (mine : Bytes → Bool) (found : Option Rec) (node : Node) → Bool
@@ -30,9 +30,9 @@ decide_for mine c k n =
     (Refuse TooLong)
 
 -- 2, then as above
-abbrev pub call_for : (mine : Bytes → Bool) (call : Call) (number : ℕ) (key : Bytes) (held : Option Node) (table : Table) → Outcome Answer
-call_for mine c i k none t = gives (Refused NoNode) t
+abbrev pub call_for : (mine : Bytes → Bool) (call : Call) (number : ℕ) (key : Bytes) (held : Option Node) (table : Table) → Outcome (Result (Unit {0}) Refusal)
+call_for mine c i k none t = gives (Err NoNode) t
 call_for mine c i k (some n) t = gives (answer_of (decide_for mine c k n)) (set_node i (act k (decide_for mine c k n) n) t)
 
-unfoldable pub call_by : (mine : Bytes → Bool) (call : Call) (number : ℕ) (key : Bytes) (table : Table) → Outcome Answer
+unfoldable pub call_by : (mine : Bytes → Bool) (call : Call) (number : ℕ) (key : Bytes) (table : Table) → Outcome (Result (Unit {0}) Refusal)
 call_by mine c i k t = call_for mine c i k (node_of i t) t

@@ -17,7 +17,7 @@ use Rattle.rules.specs.declared.Party.{Party}
 use Rattle.rules.specs.declared.Party.TheVariants.{Metering, Building, Nobody}
 use Rattle.rules.specs.declared.Profile.{Profile}
 use Rattle.rules.specs.declared.Profile.TheVariants.{Shared}
-use Rattle.rules.specs.declared.Answer.TheVariants.{Done}
+use Rattle.rules.specs.Results.{done}
 
 -- ---- what may happen between two deltas
 
@@ -74,7 +74,7 @@ abbrev pub said_as : {Ask : Type 0} (tells : Telling Ask) (profile : Profile) (e
 said_as tells f (Writing p wanted v now i k) w = says (answer_told (write_as f p wanted v now i k w.table).answer) []
 said_as tells f (Calling p i k c) w = says (answer_told (call_as f p c i k w.table).answer) []
 said_as tells f (Asking p q) w = tells f p q w.table
-said_as tells f (Removing now grace) w = says (answer_told Done) []
+said_as tells f (Removing now grace) w = says (answer_told done) []
 said_as tells f (Adding i) w = says (answer_told (add_whole i w).answer) []
 said_as tells f (Dropping i) w = says (answer_told (remove_whole i w).answer) []
 said_as tells f (Remembering i) w = says (remembered_told (remembered_as (heartbeat_of i w.memory))) []

@@ -16,24 +16,21 @@ use Rattle.rules.specs.Local.{Found as Ruled, lookup, lookup_as, lookup_on, pref
 use Rattle.rules.specs.Node.{Rec, Node, hits}
 use Rattle.rules.specs.Party.{alone, own}
 use Rattle.rules.specs.Table.{Entry, Table, node_of}
-use Rattle.rules.specs.declared.Listed.{Listed}
+use Rattle.std.specs.Prelude.{Option as Optional}
+use Rattle.std.specs.Prelude.{Err, None, Ok, Result, Some}
+use Rattle.inspect.specs.declared.RecordRead.{RecordRead}
+use Rattle.inspect.specs.declared.Rows.{Rows}
+use Rattle.lookup.specs.declared.Found.{Found}
+use Rattle.rules.specs.declared.Refusal.{Refusal}
 use Rattle.rules.specs.declared.Party.{Party}
 use Rattle.rules.specs.declared.Profile.TheVariants.{Shared}
 use Rattle.rules.specs.declared.Refusal.TheVariants.{BadTable, TooLong}
 use Rattle.table_read.specs.Find.{node_start, start_from}
 use Rattle.lookup.specs.Lookup.{find_as, find_on, find_rec, found_rec, handed, unless_other}
 use Rattle.lookup.specs.Told.{found_told}
-use Rattle.lookup.specs.declared.Found.{Found}
-use Rattle.lookup.specs.declared.Found.TheVariants as found
 use Rattle.inspect.specs.Look.{element_at, header_on, number_on, read_at, read_key, read_rec, record_by_key_on, record_in, record_of_places, record_on, records_on, rows_on}
 use Rattle.inspect.specs.Look as look
 use Rattle.inspect.specs.Told.{count_told, node_number_told, record_read_told, rows_told}
-use Rattle.inspect.specs.declared.Count.{Count}
-use Rattle.inspect.specs.declared.Count.TheVariants as count
-use Rattle.inspect.specs.declared.RecordRead.{RecordRead}
-use Rattle.inspect.specs.declared.RecordRead.TheVariants as rec
-use Rattle.inspect.specs.declared.Rows.{Rows}
-use Rattle.inspect.specs.declared.Rows.TheVariants as rows
 use Rattle.inspect_text.specs.Texts.{bytes_on, place_on, record_bytes, text_on}
 use Rattle.inspect_text.specs.declared.Text.{Text}
 use Rattle.inspect_text.specs.declared.Text.TheVariants as text
@@ -41,9 +38,7 @@ use Rattle.overrides.specs.Overrides.{valid_node}
 use Rattle.overrides.specs.declared.Which.TheVariants as which
 use Rattle.over_find.specs.Over.{HandedOver, lookup_over, nothing_held, over_of, own_found, ruled_over, value_over}
 use Rattle.over_find.specs.Told.{found_over_told}
-use Rattle.over_find.specs.declared.FoundOver.TheVariants as over
 use Rattle.over_list.specs.Merged.{Hit, hit, hits_by, hits_in, key_of_hit, lay_over, list_into, list_on, listing, over_place, overlaid, own_hits, places_of}
-use Rattle.over_list.specs.declared.ListedOver.TheVariants as listed_over
 use Rattle.prefix.specs.Rows.{begun, earlier, prefix_rows_on}
 use Rattle.parties.specs.TwoRuns.{Blind, says, unversioned, unversioned_each, versionless, versionless_node}
 use Rattle.parties.proofs.Readings.{bare_held, blind-node, blind-view, length-blind, lookup-blind, node-blind, prefix-blind}
@@ -54,7 +49,7 @@ use Rattle.parties_calls.specs.Linked.{Find, ListPrefix, RecordCount, RecordAt, 
 find-rec : (k : List ℕ) (s j : ℕ) (l : List Rec) → find_rec k s j (unversioned_each l) ≡ find_rec k s j l
 unfolding find_rec unversioned_each
 find-rec k s j [] = refl
-find-rec k s j (r ∷ l) = ap (λ (x : Found). pick (same_bytes k r.kv.key) (found_rec s j r) x) (find-rec k s (suc j) l)
+find-rec k s j (r ∷ l) = ap (λ (x : (Result (Optional Found) Refusal)). pick (same_bytes k r.kv.key) (found_rec s j r) x) (find-rec k s (suc j) l)
 
 read-key : (k : List ℕ) (s j : ℕ) (l : List Rec) → read_left (read_key k s j (unversioned_each l)) ≡ read_left (read_key k s j l)
 unfolding read_key unversioned_each
@@ -95,11 +90,11 @@ keep-rec f same (r ∷ l) = ap (λ (b : Bool). length (pick b (unversioned r ∷
 
 find-on : (k : List ℕ) (s : ℕ) (o : Option Node) → find_on k s (bare_held o) ≡ find_on k s o
 find-on k s none = refl
-find-on k s (some n) = ap (λ (x : Found). pick (leb (length k) max_key) x (found.Refused TooLong)) (find-rec k s 0 n.recs)
+find-on k s (some n) = ap (λ (x : (Result (Optional Found) Refusal)). pick (leb (length k) max_key) x (Err TooLong)) (find-rec k s 0 n.recs)
 
 records-on : (o : Option Node) → records_on (bare_held o) ≡ records_on o
 records-on none = refl
-records-on (some n) = ap count.Are (length-blind n.recs)
+records-on (some n) = ap Ok (length-blind n.recs)
 
 record-on : (j s : ℕ) (o : Option Node) → read_left (record_on j s (bare_held o)) ≡ read_left (record_on j s o)
 record-on j s none = refl
@@ -109,18 +104,18 @@ by-key-on : (k : List ℕ) (s : ℕ) (o : Option Node) → read_left (record_by_
 by-key-on k s none = refl
 by-key-on k s (some n) = go (leb (length k) max_key)
   where
-    go : (b : Bool) → read_left (pick b (read_key k s 0 (unversioned_each n.recs)) (rec.Refused TooLong)) ≡ read_left (pick b (read_key k s 0 n.recs) (rec.Refused TooLong))
+    go : (b : Bool) → read_left (pick b (read_key k s 0 (unversioned_each n.recs)) (Err TooLong)) ≡ read_left (pick b (read_key k s 0 n.recs) (Err TooLong))
     go true = read-key k s 0 n.recs
     go false = refl
 
 rows_on_lem : (s : ℕ) (o : Option Node) → rows_on s (bare_held o) ≡ rows_on s o
 rows_on_lem s none = refl
-rows_on_lem s (some n) = ap (rows.Are (s + rec_place 0)) (length-blind n.recs)
+rows_on_lem s (some n) = ap (λ (n : ℕ). Ok (record { at = s + rec_place 0; count = n })) (length-blind n.recs)
 
 prefix-rows-on : (k : List ℕ) (s : ℕ) (o : Option Node) → prefix_rows_on k s (bare_held o) ≡ prefix_rows_on k s o
 prefix-rows-on k s none = refl
 prefix-rows-on k s (some n) =
-    ap₂ (λ (a b : ℕ). pick (leb (length k) max_key) (rows.Are (s + rec_place a) b) (rows.Refused TooLong)) (keep-rec (earlier k) (λ r. refl) n.recs) (keep-rec (begun k) (λ r. refl) n.recs)
+    ap₂ (λ (a b : ℕ). pick (leb (length k) max_key) (Ok (record { at = (s + rec_place a); count = b })) (Err TooLong)) (keep-rec (earlier k) (λ r. refl) n.recs) (keep-rec (begun k) (λ r. refl) n.recs)
 
 -- ---- of a table
 
@@ -160,15 +155,15 @@ of_places : (i j : ℕ) (t : Table) → read_left (record_of_places i j (version
 of_places i j t = ap (λ (x : Option Entry). read_left (record_in j (node_place i) x)) (element-table i t) ∙ record-in j (node_place i) (element_at i t)
 
 -- 19, where it is
-abbrev other_told : RecordRead → RecordRead
+abbrev other_told : (Result (Optional RecordRead) Refusal) → (Result (Optional RecordRead) Refusal)
 other_told a = read_left (look.unless_other false a)
 
-told-left : (a : RecordRead) → other_told (read_left a) ≡ other_told a
-told-left (rec.Is k v r) = refl
-told-left rec.Nothing = refl
-told-left (rec.Refused r) = refl
+told-left : (a : (Result (Optional RecordRead) Refusal)) → other_told (read_left a) ≡ other_told a
+told-left (Ok (Some r)) = refl
+told-left (Ok None) = refl
+told-left (Err r) = refl
 
-other-left : (b : Bool) (x y : RecordRead) → read_left x ≡ read_left y → read_left (look.unless_other b x) ≡ read_left (look.unless_other b y)
+other-left : (b : Bool) (x y : (Result (Optional RecordRead) Refusal)) → read_left x ≡ read_left y → read_left (look.unless_other b x) ≡ read_left (look.unless_other b y)
 other-left true x y e = e
 other-left false x y e = sym (told-left x) ∙ ap other_told e ∙ told-left y
 
@@ -226,7 +221,7 @@ listing-blind mine k o l =
 
 list_on_lem : (mine : List ℕ → Bool) (k : List ℕ) (n : Node) (l : List ℕ) (o : Option Node) → list_on mine k n (bare_held o) l ≡ list_on mine k n o l
 list_on_lem mine k n l none = refl
-list_on_lem mine k n l (some m) = ap (λ (x : List ℕ). pick (leb (length k) max_key) (list_into x l) (given (listed_over.Refused which.Neither TooLong) l)) (listing-blind mine k n.recs m.recs)
+list_on_lem mine k n l (some m) = ap (λ (x : List ℕ). pick (leb (length k) max_key) (list_into x l) (given (Err (record { which = which.Neither; why = TooLong })) l)) (listing-blind mine k n.recs m.recs)
 
 -- ---- texts
 
@@ -289,23 +284,23 @@ over-same f bad rule other e o = go (valid_node o)
 
 pub asked-blind : Blind asked
 unfolding prefixed_as prefixed lookup_over
-asked-blind p (Find i k) t = ap₂ (λ (x : Found) (y : Ruled). says (found_told x) (handed y ∷ [])) (find-view p i k t) (value-view p i k t)
+asked-blind p (Find i k) t = ap₂ (λ (x : (Result (Optional Found) Refusal)) (y : Ruled). says (found_told x) (handed y ∷ [])) (find-view p i k t) (value-view p i k t)
 asked-blind p (ListPrefix i k l) t =
-    ap (λ (g : Given Listed (List ℕ)). says (listed_told g.answer) (g.lent ∷ [])) (blind-node (λ o. prefix_on k o l) (λ o. prefix-blind k o l) i (own p) t)
-asked-blind p (RecordCount i) t = ap (λ (x : Count). says (count_told x) []) (blind-node records_on records-on i (own p) t)
-asked-blind p (RecordAt i j) t = ap (λ (x : RecordRead). says (record_read_told x) []) (placed-view (λ s o. read_left (record_on j s o)) (record-on j) i p t)
-asked-blind p (RecordOf i j) t = ap (λ (x : RecordRead). says (record_read_told x) []) (blind-view (λ u. read_left (record_of_places i j u)) (of_places i j) (own p) t)
+    ap (λ (g : Given (Result ℕ Refusal) (List ℕ)). says (listed_told g.answer) (g.lent ∷ [])) (blind-node (λ o. prefix_on k o l) (λ o. prefix-blind k o l) i (own p) t)
+asked-blind p (RecordCount i) t = ap (λ (x : (Result ℕ Refusal)). says (count_told x) []) (blind-node records_on records-on i (own p) t)
+asked-blind p (RecordAt i j) t = ap (λ (x : (Result (Optional RecordRead) Refusal)). says (record_read_told x) []) (placed-view (λ s o. read_left (record_on j s o)) (record-on j) i p t)
+asked-blind p (RecordOf i j) t = ap (λ (x : (Result (Optional RecordRead) Refusal)). says (record_read_told x) []) (blind-view (λ u. read_left (record_of_places i j u)) (of_places i j) (own p) t)
 asked-blind p (RecordByKey i k) t =
-    ap (λ (x : RecordRead). says (record_read_told x) []) (other-left (own p k) _ _ (placed-view (λ s o. read_left (record_by_key_on k s o)) (by-key-on k) i p t))
-asked-blind p (NodeRows i) t = ap (λ (x : Rows). says (rows_told x) []) (placed-view rows_on rows_on_lem i p t)
-asked-blind p (PrefixRows i k) t = ap (λ (x : Rows). says (rows_told x) []) (placed-view (prefix_rows_on k) (prefix-rows-on k) i p t)
+    ap (λ (x : (Result (Optional RecordRead) Refusal)). says (record_read_told x) []) (other-left (own p k) _ _ (placed-view (λ s o. read_left (record_by_key_on k s o)) (by-key-on k) i p t))
+asked-blind p (NodeRows i) t = ap (λ (x : (Result Rows Refusal)). says (rows_told x) []) (placed-view rows_on rows_on_lem i p t)
+asked-blind p (PrefixRows i k) t = ap (λ (x : (Result Rows Refusal)). says (rows_told x) []) (placed-view (prefix_rows_on k) (prefix-rows-on k) i p t)
 asked-blind p (FindText i j x) t =
-    ap₂ (λ (a : Found) (b : List ℕ). says (found_told a) (b ∷ [])) (placed-view (text_on x j) (text-on x j) i p t) (blind-node (bytes_on x j) (bytes_on_lem x j) i (own p) t)
+    ap₂ (λ (a : (Result (Optional Found) Refusal)) (b : List ℕ). says (found_told a) (b ∷ [])) (placed-view (text_on x j) (text-on x j) i p t) (blind-node (bytes_on x j) (bytes_on_lem x j) i (own p) t)
 asked-blind p (FindOver i k o) t =
     ap₂ (λ (a : Told) (b : List ℕ). says a (b ∷ []))
-    (over-same found_over_told (over.Refused which.Overrides BadTable) _ _ (λ n. ap (λ (x : Found). found_over_told (over_of (own_found k n) x)) (find-view p i k t)) o)
+    (over-same found_over_told (Err (record { which = which.Overrides; why = BadTable })) _ _ (λ n. ap (λ (x : (Result (Optional Found) Refusal)). found_over_told (over_of (own_found k n) x)) (find-view p i k t)) o)
     (over-same (λ (h : HandedOver). h.bytes) nothing_held (λ n. value_over Shared p i k n (versionless (alone (own p) t))) (λ n. value_over Shared p i k n t) (λ n. ap (λ (x : Ruled). handed (ruled_over (lookup_on k (some n)) x)) (value-view p i k t)) o)
-asked-blind p (ListOver i k l o) t = over-same list_said (given (listed_over.Refused which.Overrides BadTable) l) _ _ (λ n. ap list_said (blind-node (λ x. list_on (own p) k n x l) (list_on_lem (own p) k n l) i (own p) t)) o
-asked-blind p NodeCount t = ap (λ (n : ℕ). says (count_told (count.Are n)) []) (length-alone t (own p))
+asked-blind p (ListOver i k l o) t = over-same list_said (given (Err (record { which = which.Overrides; why = BadTable })) l) _ _ (λ n. ap list_said (blind-node (λ x. list_on (own p) k n x l) (list_on_lem (own p) k n l) i (own p) t)) o
+asked-blind p NodeCount t = ap (λ (n : ℕ). says (count_told (Ok n)) []) (length-alone t (own p))
 asked-blind p (NodeNumber i) t = ap (λ x. says (node_number_told x) []) (numbers-alone i t (own p))
 asked-blind p (Heartbeat i) t = ap (λ x. says x []) (beat-alone i t (own p))

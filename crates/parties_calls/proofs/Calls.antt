@@ -14,10 +14,10 @@ use Rattle.rules.specs.declared.Party.{Party}
 use Rattle.rules.specs.declared.Profile.TheVariants.{Shared}
 use Rattle.inspect.specs.Look.{lent_node_header}
 use Rattle.inspect.specs.Told.{node_header_told, record_read_told}
-use Rattle.inspect.specs.declared.NodeHeader.{NodeHeader}
-use Rattle.inspect.specs.declared.NodeHeader.TheVariants as header
+use Rattle.std.specs.Prelude.{Err, None, Ok, Option, Result, Some}
 use Rattle.inspect.specs.declared.RecordRead.{RecordRead}
-use Rattle.inspect.specs.declared.RecordRead.TheVariants as rec
+use Rattle.rules.specs.declared.Header.{Header}
+use Rattle.rules.specs.declared.Refusal.{Refusal}
 use Rattle.demand1.specs.Calls as calls
 use Rattle.demand1.specs.Calls.{Call, Kind, leaves}
 use Rattle.parties.specs.LentRuns.{LentUnspent, all_fit, event_fits, lent_happen, lent_heard, lent_said}
@@ -29,16 +29,16 @@ use Rattle.parties_calls.proofs.Linked.{linked-two-runs}
 -- ---- one call
 
 -- what is left of a record, and of a header
-record-left : (a : RecordRead) → told_by but_version (record_read_told a) ≡ record_told a
+record-left : (a : (Result (Option RecordRead) Refusal)) → told_by but_version (record_read_told a) ≡ record_told a
 unfolding record_read_told
-record-left (rec.Is k v r) = refl
-record-left rec.Nothing = refl
-record-left (rec.Refused r) = refl
+record-left (Ok (Some r)) = refl
+record-left (Ok None) = refl
+record-left (Err r) = refl
 
-header-left : (a : NodeHeader) → told_by beat_of (node_header_told a) ≡ beat_told a
+header-left : (a : (Result Header Refusal)) → told_by beat_of (node_header_told a) ≡ beat_told a
 unfolding node_header_told
-header-left (header.Is h) = refl
-header-left (header.Refused r) = refl
+header-left (Ok h) = refl
+header-left (Err r) = refl
 
 fit : (n : calls.U64) → ltb n.value numbers ≡ true
 fit n = lt-ltb n.value numbers n.fits

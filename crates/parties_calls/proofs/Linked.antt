@@ -11,8 +11,12 @@ use Rattle.rules.specs.Local.{prefixed_as}
 use Rattle.rules.specs.Node.{Node}
 use Rattle.rules.specs.Table.{Table}
 use Rattle.rules.specs.Whole.{Whole, decode_whole, encode_whole, obeys_whole}
-use Rattle.rules.specs.declared.Listed.{Listed}
-use Rattle.rules.specs.declared.Listed.TheVariants as listed
+use Rattle.std.specs.Prelude.{Err, Option, Result}
+use Rattle.inspect.specs.declared.RecordRead.{RecordRead}
+use Rattle.inspect.specs.declared.Rows.{Rows}
+use Rattle.lookup.specs.declared.Found.{Found}
+use Rattle.rules.specs.declared.Header.{Header}
+use Rattle.rules.specs.declared.Refusal.{Refusal}
 use Rattle.rules.specs.declared.Party.{Party}
 use Rattle.rules.specs.declared.Profile.{Profile}
 use Rattle.rules.specs.declared.Profile.TheVariants.{Shared}
@@ -20,29 +24,15 @@ use Rattle.rules.specs.declared.Refusal.TheVariants.{BadTable}
 use Rattle.table.proofs.Encoded.{from-whole}
 use Rattle.lookup.specs.Lookup.{HandedOut, find_as, nothing_held, value_part}
 use Rattle.lookup.specs.Told.{found_told}
-use Rattle.lookup.specs.declared.Found.{Found}
-use Rattle.lookup.specs.declared.Found.TheVariants as found
 use Rattle.inspect.specs.Look.{node_count, node_header, node_number, node_rows_as, read_record_as, record_by_key_as, record_count_as, record_of_as}
 use Rattle.inspect.specs.Told.{count_told, node_number_told, rows_told}
-use Rattle.inspect.specs.declared.Count.{Count}
-use Rattle.inspect.specs.declared.Count.TheVariants as count
-use Rattle.inspect.specs.declared.NodeHeader.{NodeHeader}
-use Rattle.inspect.specs.declared.NodeHeader.TheVariants as header
-use Rattle.inspect.specs.declared.NodeNumber.{NodeNumber}
-use Rattle.inspect.specs.declared.NodeNumber.TheVariants as number
-use Rattle.inspect.specs.declared.RecordRead.{RecordRead}
-use Rattle.inspect.specs.declared.RecordRead.TheVariants as rec
-use Rattle.inspect.specs.declared.Rows.{Rows}
-use Rattle.inspect.specs.declared.Rows.TheVariants as rows
 use Rattle.inspect_text.specs.Texts.{text_found_as, text_part}
 use Rattle.overrides.specs.Both.{from_both}
 use Rattle.overrides.specs.Overrides.{valid_node}
 use Rattle.overrides.specs.declared.Which.{Which}
 use Rattle.overrides.specs.declared.Which.TheVariants as which
 use Rattle.over_find.specs.Over.{found_over as found_over_as, nothing_held as none_held, value_over}
-use Rattle.over_find.specs.declared.FoundOver.TheVariants as found_over
 use Rattle.over_list.specs.Merged.{list_over}
-use Rattle.over_list.specs.declared.ListedOver.TheVariants as listed_over
 use Rattle.prefix.specs.Rows.{prefix_rows_as}
 use Rattle.parties.specs.LentRuns.{Alike, Lends, LentUnspent, all_fit}
 use Rattle.parties.specs.TwoRuns.{Event, says, stripped}
@@ -60,24 +50,24 @@ both-lent {A} w o bad rule overrides =
 
 asked-lent : Lends lent_asked asked
 asked-lent p (ask.Find i k) w o =
-    ap₂ (λ (x : Found) (y : HandedOut). says (found_told x) (y.bytes ∷ [])) (from-profile w o (found.Refused BadTable) (λ f. find_as f p i k)) (from-profile w o nothing_held (λ f. value_part f p i k))
+    ap₂ (λ (x : (Result (Option Found) Refusal)) (y : HandedOut). says (found_told x) (y.bytes ∷ [])) (from-profile w o (Err BadTable) (λ f. find_as f p i k)) (from-profile w o nothing_held (λ f. value_part f p i k))
 asked-lent p (ask.ListPrefix i k list) w o =
-    ap (λ (g : Given Listed (List ℕ)). says (listed_told g.answer) (g.lent ∷ [])) (from-profile w o (given (listed.Refused BadTable) list) (λ f t. prefixed_as f p i k t list))
-asked-lent p (ask.RecordCount i) w o = ap (λ (x : Count). says (count_told x) []) (from-profile w o (count.Refused BadTable) (λ f. record_count_as f p i))
-asked-lent p (ask.RecordAt i j) w o = ap (λ (x : RecordRead). says (record_told x) []) (from-profile w o (rec.Refused BadTable) (λ f. read_record_as f p i j))
-asked-lent p (ask.RecordOf i j) w o = ap (λ (x : RecordRead). says (record_told x) []) (from-profile w o (rec.Refused BadTable) (λ f. record_of_as f p i j))
-asked-lent p (ask.RecordByKey i k) w o = ap (λ (x : RecordRead). says (record_told x) []) (from-profile w o (rec.Refused BadTable) (λ f. record_by_key_as f p i k))
-asked-lent p (ask.NodeRows i) w o = ap (λ (x : Rows). says (rows_told x) []) (from-profile w o (rows.Refused BadTable) (λ f. node_rows_as f p i))
-asked-lent p (ask.PrefixRows i k) w o = ap (λ (x : Rows). says (rows_told x) []) (from-profile w o (rows.Refused BadTable) (λ f. prefix_rows_as f p i k))
+    ap (λ (g : Given (Result ℕ Refusal) (List ℕ)). says (listed_told g.answer) (g.lent ∷ [])) (from-profile w o (given (Err BadTable) list) (λ f t. prefixed_as f p i k t list))
+asked-lent p (ask.RecordCount i) w o = ap (λ (x : (Result ℕ Refusal)). says (count_told x) []) (from-profile w o (Err BadTable) (λ f. record_count_as f p i))
+asked-lent p (ask.RecordAt i j) w o = ap (λ (x : (Result (Option RecordRead) Refusal)). says (record_told x) []) (from-profile w o (Err BadTable) (λ f. read_record_as f p i j))
+asked-lent p (ask.RecordOf i j) w o = ap (λ (x : (Result (Option RecordRead) Refusal)). says (record_told x) []) (from-profile w o (Err BadTable) (λ f. record_of_as f p i j))
+asked-lent p (ask.RecordByKey i k) w o = ap (λ (x : (Result (Option RecordRead) Refusal)). says (record_told x) []) (from-profile w o (Err BadTable) (λ f. record_by_key_as f p i k))
+asked-lent p (ask.NodeRows i) w o = ap (λ (x : (Result Rows Refusal)). says (rows_told x) []) (from-profile w o (Err BadTable) (λ f. node_rows_as f p i))
+asked-lent p (ask.PrefixRows i k) w o = ap (λ (x : (Result Rows Refusal)). says (rows_told x) []) (from-profile w o (Err BadTable) (λ f. prefix_rows_as f p i k))
 asked-lent p (ask.FindText i j x) w o =
-    ap₂ (λ (a : Found) (b : HandedOut). says (found_told a) (b.bytes ∷ [])) (from-profile w o (found.Refused BadTable) (λ f. text_found_as f p x i j)) (from-profile w o nothing_held (λ f. text_part f p x i j))
+    ap₂ (λ (a : (Result (Option Found) Refusal)) (b : HandedOut). says (found_told a) (b.bytes ∷ [])) (from-profile w o (Err BadTable) (λ f. text_found_as f p x i j)) (from-profile w o nothing_held (λ f. text_part f p x i j))
 asked-lent p (ask.FindOver i k over) w o =
     ap₂ over_said
-    (both-lent w o (λ a. found_over.Refused a BadTable) (λ f n. found_over_as f p i k n) over) (both-lent w o (λ a. none_held) (λ f n. value_over f p i k n) over)
-asked-lent p (ask.ListOver i k list over) w o = ap list_said (both-lent w o (λ a. given (listed_over.Refused a BadTable) list) (λ f n. list_over f p i k list n) over)
-asked-lent p ask.NodeCount w o = ap (λ (x : Count). says (count_told x) []) (from-whole w o (count.Refused BadTable) node_count)
-asked-lent p (ask.NodeNumber i) w o = ap (λ (x : NodeNumber). says (node_number_told x) []) (from-whole w o (number.Refused BadTable) (node_number i))
-asked-lent p (ask.Heartbeat i) w o = ap (λ (x : NodeHeader). says (beat_told x) []) (from-whole w o (header.Refused BadTable) (node_header i))
+    (both-lent w o (λ a. (Err (record { which = a; why = BadTable }))) (λ f n. found_over_as f p i k n) over) (both-lent w o (λ a. none_held) (λ f n. value_over f p i k n) over)
+asked-lent p (ask.ListOver i k list over) w o = ap list_said (both-lent w o (λ a. given (Err (record { which = a; why = BadTable })) list) (λ f n. list_over f p i k list n) over)
+asked-lent p ask.NodeCount w o = ap (λ (x : (Result ℕ Refusal)). says (count_told x) []) (from-whole w o (Err BadTable) node_count)
+asked-lent p (ask.NodeNumber i) w o = ap (λ (x : (Result ℕ Refusal)). says (node_number_told x) []) (from-whole w o (Err BadTable) (node_number i))
+asked-lent p (ask.Heartbeat i) w o = ap (λ (x : (Result Header Refusal)). says (beat_told x) []) (from-whole w o (Err BadTable) (node_header i))
 
 -- Two runs of calls from the same bytes, whatever these are; where they are a table, it is shared. They agree on the party's own calls and on all that is
 -- common; none of its own writes and deletes is answered 6. Then all that is said to the party is the same, places in bytes and handed out bytes too, but for

@@ -20,22 +20,20 @@ use Rattle.lookup.specs.Lookup.{find_as, lent_find, lent_value_part, value_part}
 use Rattle.lookup.specs.Told.{found_told}
 use Rattle.inspect.specs.Look.{lent_node_count, lent_node_header, lent_node_number, lent_node_rows, lent_read_record, lent_record_by_key, lent_record_count, lent_record_of, node_count, node_header, node_number, node_rows_as, read_record_as, record_by_key_as, record_count_as, record_of_as}
 use Rattle.inspect.specs.Told.{count_told, node_number_told, record_read_told, rows_told}
-use Rattle.inspect.specs.declared.NodeHeader.{NodeHeader}
-use Rattle.inspect.specs.declared.NodeHeader.TheVariants as header
+use Rattle.std.specs.Prelude.{Err, None, Ok, Option, Result, Some}
 use Rattle.inspect.specs.declared.RecordRead.{RecordRead}
-use Rattle.inspect.specs.declared.RecordRead.TheVariants as rec
+use Rattle.over_find.specs.declared.FoundOver.{FoundOver}
+use Rattle.overrides.specs.declared.RefusedOver.{RefusedOver}
+use Rattle.rules.specs.declared.Header.{Header}
+use Rattle.rules.specs.declared.Refusal.{Refusal}
 use Rattle.inspect_text.specs.Texts.{bytes_in, lent_text_found, lent_text_part, text_found}
 use Rattle.inspect_text.specs.declared.Text.{Text}
 use Rattle.overrides.specs.Overrides.{valid_node}
 use Rattle.overrides.specs.declared.Which.TheVariants as which
 use Rattle.over_find.specs.Over.{HandedOver, found_over, lent_find_over, lent_value_over, nothing_held, value_over}
 use Rattle.over_find.specs.Told.{found_over_told}
-use Rattle.over_find.specs.declared.FoundOver.{FoundOver}
-use Rattle.over_find.specs.declared.FoundOver.TheVariants as over
 use Rattle.over_list.specs.Merged.{lent_list_over, list_over}
 use Rattle.over_list.specs.Told.{listed_over_told}
-use Rattle.over_list.specs.declared.ListedOver.{ListedOver}
-use Rattle.over_list.specs.declared.ListedOver.TheVariants as listed
 use Rattle.prefix.specs.Rows.{lent_prefix_rows, prefix_rows_as}
 use Rattle.parties.specs.TwoRuns.{Said, says}
 
@@ -66,23 +64,23 @@ pub data Asked : Type 0 where
 abbrev pub version_left : (numbers : Record) → Record
 version_left r = record { keylen = r.keylen; valuelen = r.valuelen; version = 0; status = r.status; start = r.start }
 
-abbrev pub read_left : (answer : RecordRead) → RecordRead
-read_left (rec.Is k v r) = rec.Is k v (version_left r)
-read_left rec.Nothing = rec.Nothing
-read_left (rec.Refused r) = rec.Refused r
+abbrev pub read_left : (answer : (Result (Option RecordRead) Refusal)) → (Result (Option RecordRead) Refusal)
+read_left (Ok (Some rr)) = (Ok (Some (record { key = rr.key; value = rr.value; «record» = (version_left rr.«record») })))
+read_left (Ok None) = (Ok None)
+read_left (Err r) = Err r
 
-abbrev pub record_told : (answer : RecordRead) → Told
+abbrev pub record_told : (answer : (Result (Option RecordRead) Refusal)) → Told
 record_told a = record_read_told (read_left a)
 
 -- of a header the heartbeat
-abbrev pub beat_told : (answer : NodeHeader) → Told
-beat_told (header.Is h) = accepted (h.heartbeat.0 ∷ [])
-beat_told (header.Refused r) = refused r []
+abbrev pub beat_told : (answer : (Result Header Refusal)) → Told
+beat_told (Ok h) = accepted (h.heartbeat.0 ∷ [])
+beat_told (Err r) = refused r []
 
-abbrev pub over_said : (found : FoundOver) (part : HandedOver) → Said
+abbrev pub over_said : (found : (Result (Option FoundOver) RefusedOver)) (part : HandedOver) → Said
 over_said f part = says (found_over_told f) (part.bytes ∷ [])
 
-abbrev pub list_said : (of : Given ListedOver Bytes) → Said
+abbrev pub list_said : (of : Given (Result ℕ RefusedOver) Bytes) → Said
 list_said g = says (listed_over_told g.answer) (g.lent ∷ [])
 
 -- 14 of the overrides, or what is asked of them
@@ -101,8 +99,8 @@ asked f p (NodeRows i) t = says (rows_told (node_rows_as f p i t)) []
 asked f p (PrefixRows i k) t = says (rows_told (prefix_rows_as f p i k t)) []
 asked f p (FindText i j x) t = says (found_told (text_found x i j (seen f p t))) (bytes_in x i j (seen f p t) ∷ [])
 asked f p (FindOver i k o) t =
-    over_said (with_over (over.Refused which.Overrides BadTable) (λ n. found_over f p i k n t) o) (with_over nothing_held (λ n. value_over f p i k n t) o)
-asked f p (ListOver i k l o) t = list_said (with_over (given (listed.Refused which.Overrides BadTable) l) (λ n. list_over f p i k l n t) o)
+    over_said (with_over (Err (record { which = which.Overrides; why = BadTable })) (λ n. found_over f p i k n t) o) (with_over nothing_held (λ n. value_over f p i k n t) o)
+asked f p (ListOver i k l o) t = list_said (with_over (given (Err (record { which = which.Overrides; why = BadTable })) l) (λ n. list_over f p i k l n t) o)
 asked f p NodeCount t = says (count_told (node_count t)) []
 asked f p (NodeNumber i) t = says (node_number_told (node_number i t)) []
 asked f p (Heartbeat i) t = says (beat_told (node_header i t)) []

@@ -16,12 +16,10 @@ pub fn count_own(node: &[u8], party: Party) -> usize
 {
     let n = fields::byte_at(node, layout::RECORD_COUNT);
     let mut count = 0;
-    let mut i = 0;
-    while i < n {
+    for i in 0..n {
         if party_form::owns(party, table::key_of(table::record_of(node, i))) {
             count += 1;
         }
-        i += 1;
     }
     count
 }

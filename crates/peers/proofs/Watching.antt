@@ -3,12 +3,11 @@ use Prim.Native.Nat.{ℕ, zero, suc, ◌+◌, ◌≤◌, ◌<◌, min}
 use mathlib.Core.Path.{◌≡◌, ◌∙◌, ap, ap₂, refl, sym, subst}
 use mathlib.Core.Bool.{Bool, true, false, ◌&&◌, false≢true, true≢false}
 use mathlib.Core.List.{List, [], ◌∷◌}
-use mathlib.Core.Logic.{◌⊎◌, inl, inr, ⊎_elim}
 use native.Mathlib.Omega.{arith}
 use lib.Dec.{eqb, leb, ltb}
-use lib.ListN.{length, take, drop, get_or, set}
-use lib.Seq.{get_or-drop, get_or-set_other, get_or-set_same, get_or-take}
-use borrow.Author.Tests.{eq-eqb, eqb-false, eqb-true, le-leb, le-ltb, leb-true, lt-ltb, ltb-false, ltb-true, ne_eqb}
+use lib.ListN.{length, take, drop, get_or}
+use lib.Seq.{get_or-drop, get_or-take}
+use borrow.Author.Tests.{eq-eqb, le-leb, le-ltb, leb-true, lt-ltb, ltb-true, ne_eqb}
 use Rattle.fields.specs.Choice.{all, pick}
 use Rattle.fields.proofs.Choice.{and_left, and_no, and_right, and_yes, in-at, pick-false, pick_true, same_test}
 use Rattle.fields.proofs.Ordered.{same_true}
@@ -21,8 +20,8 @@ use Rattle.rules.specs.Digest.{DigestRead, Entries, NodeDigest, Refused}
 use Rattle.rules.specs.Sizes.{max_nodes, numbers, top}
 use Rattle.rules.specs.Table.{Entry, Table, among, numbers_of, rising}
 use Rattle.rules.specs.Whole.{Whole, decode_whole, encode_whole, valid_whole}
-use Rattle.rules.specs.declared.Answer.{Answer}
-use Rattle.rules.specs.declared.Answer.TheVariants as plain
+use Rattle.std.specs.Prelude.{Err, None, Ok, Result, Some}
+use Rattle.rules.specs.Results.{done}
 use Rattle.rules.specs.declared.Refusal.{Refusal}
 use Rattle.rules.specs.declared.Refusal.TheVariants.{BadPeer, BadTable, NoNode, NobodyPresent}
 use Rattle.table.specs.Changes.{fresh_entry}
@@ -36,8 +35,6 @@ use Rattle.grid.proofs.Places.{place-missing, place-there}
 use Rattle.grid_change.proofs.Storing.{columns-are, many}
 use Rattle.grid.specs.Careful.{careful_due, seen_by}
 use Rattle.grid.specs.LentGrid.{GridAndTable, both, carefully_removed, fits_table, grid_on, least_in, pair_seen, seen_in, tell_on, valid_both}
-use Rattle.grid.specs.declared.Least.TheVariants as least
-use Rattle.grid.specs.declared.Seen.TheVariants as seen
 
 -- ---- one of two, by a test
 
@@ -81,19 +78,22 @@ module _ (g t : Bytes) where
 
 -- ---- a node that comes or goes, and its column with it
 
-module _ (g t : Bytes) (v : valid_both g t ≡ true) (o : Given Answer Whole) (after : Bytes) (a : Answer) (s : Bytes) (ea : a ≡ o.answer) (es : s ≡ encode_whole o.lent) where
-  abbrev of : Given Answer GridAndTable
-  of = pick (valid_both g t) (given o.answer (both (grid_on o.answer after g) (encode_whole o.lent))) (given (plain.Refused BadTable) (both g t))
+module _ (g t : Bytes) (v : valid_both g t ≡ true) (o : Given (Result (Unit {0}) Refusal) Whole) (after : Bytes) (a : (Result (Unit {0}) Refusal)) (s : Bytes) (ea : a ≡ o.answer) (es : s ≡ encode_whole o.lent) where
+  abbrev of : Given (Result (Unit {0}) Refusal) GridAndTable
+  of = pick (valid_both g t) (given o.answer (both (grid_on o.answer after g) (encode_whole o.lent))) (given (Err BadTable) (both g t))
 
-  pub with-column : a ≡ plain.Done → (h : Bytes) → h ≡ after → Gives of plain.Done (both h s)
+  follows : (h : Bytes) → h ≡ grid_on a after g → Gives of a (both h s)
+  follows h e = yes _ _ (valid_both g t) v a (both h s) (ea, λ z. both ((e ∙ ap (λ (x : (Result (Unit {0}) Refusal)). grid_on x after g) ea) z) (es z))
+
+  pub with-column : a ≡ done → (h : Bytes) → h ≡ after → Gives of done (both h s)
   with-column d h e =
-      let q : plain.Done ≡ o.answer = sym d ∙ ea in
-      yes _ _ (valid_both g t) v plain.Done (both h s) (q, λ z. both ((e ∙ ap (λ (x : Answer). grid_on x after g) q) z) (es z))
+      subst (λ (x : (Result (Unit {0}) Refusal)). Gives of x (both h s)) d
+      (follows h (e ∙ ap (λ (x : (Result (Unit {0}) Refusal)). grid_on x after g) (sym d)))
 
-  pub without-column : (why : Refusal) → a ≡ plain.Refused why → Gives of (plain.Refused why) (both g s)
+  pub without-column : (why : Refusal) → a ≡ Err why → Gives of (Err why) (both g s)
   without-column why d =
-      let q : plain.Refused why ≡ o.answer = sym d ∙ ea in
-      yes _ _ (valid_both g t) v (plain.Refused why) (both g s) (q, λ z. both (ap (λ (x : Answer). grid_on x after g) q z) (es z))
+      subst (λ (x : (Result (Unit {0}) Refusal)). Gives of x (both g s)) d
+      (follows g (ap (λ (x : (Result (Unit {0}) Refusal)). grid_on x after g) (sym d)))
 
 -- ---- the bound of a careful removal
 
@@ -165,11 +165,11 @@ nothing-behind false b e = refl
 -- ---- a told digest
 
 module _ (p : ℕ) (read : DigestRead) (g : Bytes) where
-  pub told_entries : (ds : List NodeDigest) (rest : Bytes) → read ≡ Entries ds rest → (s : Bytes) → s ≡ encode_grid (tell_row p ds (decode_grid g)) → Gives (tell_on p read g) plain.Done s
-  told_entries ds rest e s q = subst (λ (r : DigestRead). Gives (tell_on p r g) plain.Done s) (sym e) (refl, q)
+  pub told_entries : (ds : List NodeDigest) (rest : Bytes) → read ≡ Entries ds rest → (s : Bytes) → s ≡ encode_grid (tell_row p ds (decode_grid g)) → Gives (tell_on p read g) done s
+  told_entries ds rest e s q = subst (λ (r : DigestRead). Gives (tell_on p r g) done s) (sym e) (refl, q)
 
-  pub told-refused : (why : Refusal) → read ≡ Refused why → Gives (tell_on p read g) (plain.Refused why) g
-  told-refused why e = subst (λ (r : DigestRead). Gives (tell_on p r g) (plain.Refused why) g) (sym e) (refl, refl)
+  pub told-refused : (why : Refusal) → read ≡ Refused why → Gives (tell_on p read g) (Err why) g
+  told-refused why e = subst (λ (r : DigestRead). Gives (tell_on p r g) (Err why) g) (sym e) (refl, refl)
 
 -- the flag of a peer
 flag_at : (l : Bytes) (p : ℕ) → p < max_peers → get_or (part (offset grid_widths 2) max_peers l) p 0 ≡ get_or l (offset grid_widths 2 + p) 0
@@ -192,77 +192,59 @@ module _ (l : Bytes) (v : valid_grid l ≡ true) (n : ℕ) (row : List ℕ) (nr 
   g = decode_grid l
 
   -- the least max
-  pub least-found : somebody g ≡ true → j < n → (m : ℕ) → m ≡ least_of (of_present (part (offset grid_widths 2) max_peers l) (column_at j (rows_in (part (offset grid_widths 4) rows_width l)))) → least.Is m ≡ least_in i g
+  pub least-found : somebody g ≡ true → j < n → (m : ℕ) → m ≡ least_of (of_present (part (offset grid_widths 2) max_peers l) (column_at j (rows_in (part (offset grid_widths 4) rows_width l)))) → Ok m ≡ least_in i g
   unfolding decode_grid
   least-found s h m q =
-      ap least.Is (q ∙ ap (λ (k : ℕ). least_of (of_present (part (offset grid_widths 2) max_peers l) (column_at k (rows_in (part (offset grid_widths 4) rows_width l))))) place_is)
-      ∙ sym (pick_true (somebody g) (pick (among i (columns g)) (least.Is (least_of (maxes_told i g))) (least.Refused NoNode)) (least.Refused NobodyPresent) s
-      ∙ pick_true (among i (columns g)) (least.Is (least_of (maxes_told i g))) (least.Refused NoNode) (there h))
+      ap Ok (q ∙ ap (λ (k : ℕ). least_of (of_present (part (offset grid_widths 2) max_peers l) (column_at k (rows_in (part (offset grid_widths 4) rows_width l))))) place_is)
+      ∙ sym (pick_true (somebody g) (pick (among i (columns g)) (Ok (least_of (maxes_told i g))) (Err NoNode)) (Err NobodyPresent) s
+      ∙ pick_true (among i (columns g)) (Ok (least_of (maxes_told i g))) (Err NoNode) (there h))
 
-  pub least-missing : somebody g ≡ true → n ≤ j → least.Refused NoNode ≡ least_in i g
+  pub least-missing : somebody g ≡ true → n ≤ j → Err NoNode ≡ least_in i g
   least-missing s h =
-      sym (pick_true (somebody g) (pick (among i (columns g)) (least.Is (least_of (maxes_told i g))) (least.Refused NoNode)) (least.Refused NobodyPresent) s
-      ∙ pick-false (among i (columns g)) (least.Is (least_of (maxes_told i g))) (least.Refused NoNode) (missing h))
+      sym (pick_true (somebody g) (pick (among i (columns g)) (Ok (least_of (maxes_told i g))) (Err NoNode)) (Err NobodyPresent) s
+      ∙ pick-false (among i (columns g)) (Ok (least_of (maxes_told i g))) (Err NoNode) (missing h))
 
   -- the pair that a peer told
   module _ (p : ℕ) (known : p < max_peers) where
-    past : n ≤ j → seen.Refused NoNode ≡ seen_in p i g
+    past : n ≤ j → Err NoNode ≡ seen_in p i g
     past h =
-        sym (pick_true (ltb p max_peers) (pick (among i (columns g)) (pair_seen p (place_of i (columns g)) g) (seen.Refused NoNode)) (seen.Refused BadPeer) (lt-ltb p max_peers known)
-        ∙ pick-false (among i (columns g)) (pair_seen p (place_of i (columns g)) g) (seen.Refused NoNode) (missing h))
+        sym (pick_true (ltb p max_peers) (pick (among i (columns g)) (pair_seen p (place_of i (columns g)) g) (Err NoNode)) (Err BadPeer) (lt-ltb p max_peers known)
+        ∙ pick-false (among i (columns g)) (pair_seen p (place_of i (columns g)) g) (Err NoNode) (missing h))
 
-    pub no-column : n ≤ j → seen.Refused NoNode ≡ seen_in p i g
+    pub no-column : n ≤ j → Err NoNode ≡ seen_in p i g
     no-column = past
 
     column : j < n → pair_seen p j g ≡ seen_in p i g
     column h =
         ap (λ (k : ℕ). pair_seen p k g) place_is
-        ∙ sym (pick_true (ltb p max_peers) (pick (among i (columns g)) (pair_seen p (place_of i (columns g)) g) (seen.Refused NoNode)) (seen.Refused BadPeer) (lt-ltb p max_peers known)
-        ∙ pick_true (among i (columns g)) (pair_seen p (place_of i (columns g)) g) (seen.Refused NoNode) (there h))
+        ∙ sym (pick_true (ltb p max_peers) (pick (among i (columns g)) (pair_seen p (place_of i (columns g)) g) (Err NoNode)) (Err BadPeer) (lt-ltb p max_peers known)
+        ∙ pick_true (among i (columns g)) (pair_seen p (place_of i (columns g)) g) (Err NoNode) (there h))
 
-    pub pair-there : j < n → get_or l (offset grid_widths 2 + p) 0 ≡ 1 → seen.Pair (get_or (get_or (rows_in (part (offset grid_widths 3) rows_width l)) p []) j 0) (get_or (get_or (rows_in (part (offset grid_widths 4) rows_width l)) p []) j 0) ≡ seen_in p i g
+    pub pair-there : j < n → get_or l (offset grid_widths 2 + p) 0 ≡ 1 → (Ok (Some (record { last_gc = (get_or (get_or (rows_in (part (offset grid_widths 3) rows_width l)) p []) j 0); max = (get_or (get_or (rows_in (part (offset grid_widths 4) rows_width l)) p []) j 0) }))) ≡ seen_in p i g
     unfolding decode_grid
     pair-there h f =
-        sym (pick_true (eqb (get_or (part (offset grid_widths 2) max_peers l) p 0) 1) _ seen.Absent (eq-eqb (get_or (part (offset grid_widths 2) max_peers l) p 0) 1 (flag_at l p known ∙ f)))
+        sym (pick_true (eqb (get_or (part (offset grid_widths 2) max_peers l) p 0) 1) _ (Ok None) (eq-eqb (get_or (part (offset grid_widths 2) max_peers l) p 0) 1 (flag_at l p known ∙ f)))
         ∙ column h
 
-    pub pair-absent : j < n → (get_or l (offset grid_widths 2 + p) 0 ≡ 1 → ⊥) → seen.Absent ≡ seen_in p i g
+    pub pair-absent : j < n → (get_or l (offset grid_widths 2 + p) 0 ≡ 1 → ⊥) → (Ok None) ≡ seen_in p i g
     unfolding decode_grid
     pair-absent h f =
         sym (pick-false (eqb (get_or (part (offset grid_widths 2) max_peers l) p 0) 1)
-        (seen.Pair (get_or (get_or (rows_in (part (offset grid_widths 3) rows_width l)) p []) j 0) (get_or (get_or (rows_in (part (offset grid_widths 4) rows_width l)) p []) j 0)) seen.Absent
+        (Ok (Some (record { last_gc = (get_or (get_or (rows_in (part (offset grid_widths 3) rows_width l)) p []) j 0); max = (get_or (get_or (rows_in (part (offset grid_widths 4) rows_width l)) p []) j 0) }))) (Ok None)
         (ne_eqb (get_or (part (offset grid_widths 2) max_peers l) p 0) 1 (λ q. f (sym (flag_at l p known) ∙ q))))
         ∙ column h
 
-pub least-nobody : (l : Bytes) (i : ℕ) → somebody (decode_grid l) ≡ false → least.Refused NobodyPresent ≡ least_in i (decode_grid l)
+pub least-nobody : (l : Bytes) (i : ℕ) → somebody (decode_grid l) ≡ false → Err NobodyPresent ≡ least_in i (decode_grid l)
 least-nobody l i e =
-    sym (pick-false (somebody (decode_grid l)) (pick (among i (columns (decode_grid l))) (least.Is (least_of (maxes_told i (decode_grid l)))) (least.Refused NoNode)) (least.Refused NobodyPresent) e)
+    sym (pick-false (somebody (decode_grid l)) (pick (among i (columns (decode_grid l))) (Ok (least_of (maxes_told i (decode_grid l)))) (Err NoNode)) (Err NobodyPresent) e)
 
-pub no-peer : (l : Bytes) (p i : ℕ) → max_peers ≤ p → seen.Refused BadPeer ≡ seen_in p i (decode_grid l)
-no-peer l p i h = sym (pick-false (ltb p max_peers) _ (seen.Refused BadPeer) (le-ltb p max_peers h))
+pub no-peer : (l : Bytes) (p i : ℕ) → max_peers ≤ p → Err BadPeer ≡ seen_in p i (decode_grid l)
+no-peer l p i h = sym (pick-false (ltb p max_peers) _ (Err BadPeer) (le-ltb p max_peers h))
 
 -- somebody is present, as the flags say
 pub present-is : (l : Bytes) (b : Bool) → b ≡ among 1 (part (offset grid_widths 2) max_peers l) → b ≡ somebody (decode_grid l)
 unfolding decode_grid
 present-is l b e = e
-
-either : (a b : ℕ) → (a < b) ⊎ (b ≤ a)
-either a b = by (ltb a b) refl
-  where
-    by : (c : Bool) → ltb a b ≡ c → (a < b) ⊎ (b ≤ a)
-    by true x = inl (ltb-true a b x)
-    by false x = inr (ltb-false a b x)
-
--- one more bound
-pub more-bounds : (f : ℕ → ℕ) (bs : List ℕ) (j v : ℕ) → j < length bs → v ≡ f j → ((k : ℕ) → k < j → get_or bs k 0 ≡ f k) → (k : ℕ) → k < j + 1 → get_or (set bs j v) k 0 ≡ f k
-more-bounds f bs j v h q p k g = go (eqb k j) refl
-  where
-    go : (b : Bool) → eqb k j ≡ b → get_or (set bs j v) k 0 ≡ f k
-    go true e = let s : k ≡ j = eqb-true k j e in ap (λ (x : ℕ). get_or (set bs j v) x 0) s ∙ get_or-set_same bs j v 0 h ∙ q ∙ ap f (sym s)
-    go false e = let n : k ≡ j → ⊥ = eqb-false k j e in get_or-set_other bs j k v 0 n ∙ p k (below n)
-      where
-        below : (k ≡ j → ⊥) → k < j
-        below n = ⊎_elim (λ l. l) (λ l. absurd (n (omega arith))) (either k j)
 
 -- the bound of a column, as it is read
 pub bound-is : (l : Bytes) (j : ℕ) (fs : List ℕ) (rows : List (List ℕ)) → fs ≡ part (offset grid_widths 2) max_peers l → rows ≡ rows_in (part (offset grid_widths 4) rows_width l)

@@ -18,13 +18,13 @@ use Rattle.rules.specs.Sizes.{least_mtu, max_delta}
 use Rattle.rules.specs.Table.{Table}
 use Rattle.rules.specs.declared.Refusal.{Refusal}
 use Rattle.rules.specs.declared.Refusal.TheVariants.{BadEdition, BadMtu, BadPlan, NoPlace}
-use Rattle.rules.specs.declared.Computed.{Computed}
-use Rattle.rules.specs.declared.Computed.TheVariants as computed
+use Rattle.std.specs.Prelude.{Err, Result}
+use Rattle.rules.specs.declared.Sent.{Sent}
 use Rattle.plan.specs.Plan.{accepts, compute_plan, delta_by, plan_on}
 
 module _ (edition : ℕ) (excluded nodes counts : List ℕ) (mtu place : ℕ) (d : List ℕ) (t : Table) (l : List ℕ) where
-  pub data PlanComes : Given Computed (List ℕ) → Type 0 where
-    refuses : (r : Refusal) → PlanComes (given (computed.Refused r) l)
+  pub data PlanComes : Given (Result Sent Refusal) (List ℕ) → Type 0 where
+    refuses : (r : Refusal) → PlanComes (given (Err r) l)
     writes : (ds : List NodeDigest) (rest : List ℕ) → read_digest edition d ≡ Entries ds rest → accepts excluded nodes counts mtu ds t ≡ true → mtu ≤ max_delta → place + mtu ≤ length l → PlanComes (written (delta_by excluded nodes counts ds t) place l)
 
   pub plan-comes : PlanComes (compute_plan edition excluded nodes counts mtu place d t l)
@@ -32,8 +32,8 @@ module _ (edition : ℕ) (excluded nodes counts : List ℕ) (mtu place : ℕ) (d
   plan-comes =
       go (is_edition edition) (leb least_mtu mtu) (leb mtu max_delta) refl (leb place (length l)) refl (leb mtu (length l - place)) refl (read_digest edition d) refl
     where
-      no : Refusal → Given Computed (List ℕ)
-      no r = given (computed.Refused r) l
+      no : Refusal → Given (Result Sent Refusal) (List ℕ)
+      no r = given (Err r) l
 
       by : (ds : List NodeDigest) (rest : List ℕ) → read_digest edition d ≡ Entries ds rest → mtu ≤ max_delta → place + mtu ≤ length l → (b : Bool) → accepts excluded nodes counts mtu ds t ≡ b → PlanComes (pick b (written (delta_by excluded nodes counts ds t) place l) (no BadPlan))
       by ds rest e h g true q = writes ds rest e q h g

@@ -21,20 +21,20 @@ use Rattle.rules.specs.Given.{given}
 use Rattle.rules.specs.Node.{KeyValue, Node}
 use Rattle.rules.specs.Sizes.{least_mtu, max_delta}
 use Rattle.rules.specs.Table.{Table, among, differ, node_of, numbers_of, obeys}
-use Rattle.rules.specs.declared.Computed.TheVariants as computed
+use Rattle.std.specs.Prelude.{Err, Ok, Result}
+use Rattle.plan.specs.declared.NotSent.{NotSent}
+use Rattle.plan.specs.declared.NotSent.TheVariants as not_sent
 use Rattle.rules.specs.declared.Refusal.TheVariants.{BadEdition, BadMtu, BadPlan, NoPlace}
 use Rattle.plan.proofs.Held.{named-held, sendable, stale_if}
 use Rattle.plan.specs.declared.Fault.{Fault}
 use Rattle.plan.specs.declared.Fault.TheVariants.{Excluded, NamedBefore, NoFit, TooFew, TooMany, UpToDate}
-use Rattle.plan.specs.declared.Judged.{Judged}
-use Rattle.plan.specs.declared.Judged.TheVariants as judged
 use Rattle.plan.specs.Faults.{count_fault, judge, judge_from, judge_on, judge_plan, judged_told, line_fault, line_size, or_else, size_of_line, stale_held}
 use Rattle.plan.specs.Plan.{accepts, compute_plan, count_fits, delta_by, line_fits, line_ops, lines_fit, plan_on, plan_ops, stale_for}
 
-abbrev pub is_accepted : Judged → Bool
-is_accepted judged.Accepted = true
-is_accepted (judged.AtFault line why) = false
-is_accepted (judged.Refused r) = false
+abbrev pub is_accepted : (Result (Unit {0}) NotSent) → Bool
+is_accepted (Ok _) = true
+is_accepted (Err (not_sent.AtFault line why)) = false
+is_accepted (Err (not_sent.Refused r)) = false
 
 -- ---- named once, looking back
 
@@ -302,7 +302,7 @@ judged-accepts excluded nodes counts mtu ds t ok =
 
 -- the number of what is said of the lines: 0 or 23
 lines-number : (excluded : List ℕ) (ds : List NodeDigest) (t : Table) (is cs : List ℕ) (line : ℕ) (before : List ℕ) (left : ℕ)
-    → let j : Judged = judge_from excluded ds t line before left is cs in (judged_told j).number ≡ pick (is_accepted j) 0 23
+    → let j : (Result (Unit {0}) NotSent) = judge_from excluded ds t line before left is cs in (judged_told j).number ≡ pick (is_accepted j) 0 23
 unfolding judge_from judged_told
 lines-number excluded ds t [] [] line before left = refl
 lines-number excluded ds t [] (c ∷ cs) line before left = refl
@@ -310,7 +310,7 @@ lines-number excluded ds t (i ∷ is) [] line before left = refl
 lines-number excluded ds t (i ∷ is) (c ∷ cs) line before left =
     go (line_fault excluded before left ds i c (node_of i t)) (lines-number excluded ds t is cs (suc line) (before ++ (i ∷ [])) (left - line_size ds i c (node_of i t)))
   where
-    rest : Judged
+    rest : (Result (Unit {0}) NotSent)
     rest = judge_from excluded ds t (suc line) (before ++ (i ∷ [])) (left - line_size ds i c (node_of i t)) is cs
 
     go : (f : Option Fault) → (judged_told rest).number ≡ pick (is_accepted rest) 0 23 → (judged_told (or_else line f rest)).number ≡ pick (is_accepted (or_else line f rest)) 0 23
@@ -331,16 +331,16 @@ same_number edition excluded nodes counts mtu place digest t l ok free =
     go (is_edition edition) (leb least_mtu mtu && leb mtu max_delta) (fits_at place mtu l) free (read_digest edition digest)
   where
     by : (ds : List NodeDigest) (b : Bool) → accepts excluded nodes counts mtu ds t ≡ b
-        → (judged_told (judge excluded nodes counts mtu ds t)).number ≡ (computed_told (pick b (written (delta_by excluded nodes counts ds t) place l) (given (computed.Refused BadPlan) l)).answer).number
+        → (judged_told (judge excluded nodes counts mtu ds t)).number ≡ (computed_told (pick b (written (delta_by excluded nodes counts ds t) place l) (given (Err BadPlan) l)).answer).number
     by ds b q = said-number excluded nodes counts mtu ds t ∙ ap (λ (x : Bool). pick x 0 23) (judged-accepts excluded nodes counts mtu ds t ok ∙ q) ∙ is b
       where
-        is : (b : Bool) → pick b 0 23 ≡ (computed_told (pick b (written (delta_by excluded nodes counts ds t) place l) (given (computed.Refused BadPlan) l)).answer).number
+        is : (b : Bool) → pick b 0 23 ≡ (computed_told (pick b (written (delta_by excluded nodes counts ds t) place l) (given (Err BadPlan) l)).answer).number
         is true = refl
         is false = refl
 
     go : (a m f : Bool) → f ≡ true → (read : DigestRead)
-        → (judged_told (pick a (pick m (judge_on excluded nodes counts mtu read t) (judged.Refused BadMtu)) (judged.Refused BadEdition))).number
-        ≡ (computed_told (pick a (pick m (pick f (plan_on excluded nodes counts mtu place read t l) (given (computed.Refused NoPlace) l)) (given (computed.Refused BadMtu) l)) (given (computed.Refused BadEdition) l)).answer).number
+        → (judged_told (pick a (pick m (judge_on excluded nodes counts mtu read t) (Err (not_sent.Refused BadMtu))) (Err (not_sent.Refused BadEdition)))).number
+        ≡ (computed_told (pick a (pick m (pick f (plan_on excluded nodes counts mtu place read t l) (given (Err NoPlace) l)) (given (Err BadMtu) l)) (given (Err BadEdition) l)).answer).number
     go false m f e read = refl
     go true false f e read = refl
     go true true false e read = absurd (false≢true e)

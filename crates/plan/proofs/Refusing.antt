@@ -12,21 +12,21 @@ use Rattle.rules.specs.Digest.{DigestRead, Entries, Refused, fits_at, is_edition
 use Rattle.rules.specs.Given.{Given, given}
 use Rattle.rules.specs.Sizes.{least_mtu, max_delta}
 use Rattle.rules.specs.Table.{Table}
-use Rattle.rules.specs.declared.Computed.{Computed}
-use Rattle.rules.specs.declared.Computed.TheVariants as computed
+use Rattle.std.specs.Prelude.{Err, Result}
+use Rattle.rules.specs.declared.Sent.{Sent}
 use Rattle.rules.specs.declared.Refusal.{Refusal}
 use Rattle.rules.specs.declared.Refusal.TheVariants.{BadEdition, BadMtu, BadPlan, NoPlace}
 use Rattle.plan.specs.Plan.{accepts, compute_plan, delta_by, plan_on}
 
 module _ (edition : ℕ) (excluded nodes counts : List ℕ) (mtu place : ℕ) (digest : Bytes) (t : Table) (l : Bytes) (r : Refusal) where
-  abbrev Leaves : Given Computed Bytes → Type 0
-  Leaves o = o.answer ≡ computed.Refused r → o.lent ≡ l
+  abbrev Leaves : Given (Result Sent Refusal) Bytes → Type 0
+  Leaves o = o.answer ≡ Err r → o.lent ≡ l
 
   pub plan-refused : Leaves (compute_plan edition excluded nodes counts mtu place digest t l)
   unfolding compute_plan
   plan-refused = go (is_edition edition) (leb least_mtu mtu && leb mtu max_delta) (fits_at place mtu l) (read_digest edition digest)
     where
-      by : (b : Bool) (d : Given Computed Bytes) → Leaves d → Leaves (pick b d (given (computed.Refused BadPlan) l))
+      by : (b : Bool) (d : Given (Result Sent Refusal) Bytes) → Leaves d → Leaves (pick b d (given (Err BadPlan) l))
       by true d h e = h e
       by false d h e = refl
 
@@ -36,7 +36,7 @@ module _ (edition : ℕ) (excluded nodes counts : List ℕ) (mtu place : ℕ) (d
       on (Refused s) = λ e. refl
 
       go : (a b c : Bool) (x : DigestRead)
-          → Leaves (pick a (pick b (pick c (plan_on excluded nodes counts mtu place x t l) (given (computed.Refused NoPlace) l)) (given (computed.Refused BadMtu) l)) (given (computed.Refused BadEdition) l))
+          → Leaves (pick a (pick b (pick c (plan_on excluded nodes counts mtu place x t l) (given (Err NoPlace) l)) (given (Err BadMtu) l)) (given (Err BadEdition) l))
       go false b c x e = refl
       go true false c x e = refl
       go true true false x e = refl

@@ -9,8 +9,9 @@ use Rattle.rules.specs.declared.Refusal.TheVariants.{BadPlan}
 use Rattle.plan.specs.Faults.{fault_code, judged_told}
 use Rattle.plan.specs.declared.Fault.{Fault}
 use Rattle.plan.specs.declared.Fault.TheVariants.{Alone, Excluded, NamedBefore, NoFit, NotHeld, TooFew, TooMany, UpToDate}
-use Rattle.plan.specs.declared.Judged.{Judged}
-use Rattle.plan.specs.declared.Judged.TheVariants as judged
+use Rattle.std.specs.Prelude.{Err, Ok, Result}
+use Rattle.plan.specs.declared.NotSent.{NotSent}
+use Rattle.plan.specs.declared.NotSent.TheVariants as not_sent
 
 -- the fault of a number
 abbrev fault_of : ℕ → Fault
@@ -32,14 +33,14 @@ coded Alone = refl
 pub same-fault : (a b : Fault) → fault_code a ≡ fault_code b → a ≡ b
 same-fault a b e = sym (coded a) ∙ ap fault_of e ∙ coded b
 
-pub same-judged : (a b : Judged) → judged_told a ≡ judged_told b → a ≡ b
+pub same-judged : (a b : (Result (Unit {0}) NotSent)) → judged_told a ≡ judged_told b → a ≡ b
 unfolding judged_told
-same-judged judged.Accepted judged.Accepted e = refl
-same-judged judged.Accepted (judged.AtFault j f) e = not-refused BadPlan (number_is e)
-same-judged judged.Accepted (judged.Refused r) e = not-refused r (number_is e)
-same-judged (judged.AtFault j f) judged.Accepted e = not-refused BadPlan (sym (number_is e))
-same-judged (judged.AtFault j f) (judged.AtFault k g) e = ap₂ judged.AtFault (value-is e 0) (same-fault f g (value-is e 1))
-same-judged (judged.AtFault j f) (judged.Refused r) e = absurd (omega (arith, values-long e))
-same-judged (judged.Refused r) judged.Accepted e = not-refused r (sym (number_is e))
-same-judged (judged.Refused r) (judged.AtFault j f) e = absurd (omega (arith, values-long e))
-same-judged (judged.Refused r) (judged.Refused s) e = ap judged.Refused (same-refusal r s (number_is e) (need-is e))
+same-judged (Ok _) (Ok _) e = refl
+same-judged (Ok _) (Err (not_sent.AtFault j f)) e = not-refused BadPlan (number_is e)
+same-judged (Ok _) (Err (not_sent.Refused r)) e = not-refused r (number_is e)
+same-judged (Err (not_sent.AtFault j f)) (Ok _) e = not-refused BadPlan (sym (number_is e))
+same-judged (Err (not_sent.AtFault j f)) (Err (not_sent.AtFault k g)) e = ap₂ (λ a b. Err (not_sent.AtFault a b)) (value-is e 0) (same-fault f g (value-is e 1))
+same-judged (Err (not_sent.AtFault j f)) (Err (not_sent.Refused r)) e = absurd (omega (arith, values-long e))
+same-judged (Err (not_sent.Refused r)) (Ok _) e = not-refused r (sym (number_is e))
+same-judged (Err (not_sent.Refused r)) (Err (not_sent.AtFault j f)) e = absurd (omega (arith, values-long e))
+same-judged (Err (not_sent.Refused r)) (Err (not_sent.Refused s)) e = ap (λ a. Err (not_sent.Refused a)) (same-refusal r s (number_is e) (need-is e))

@@ -14,8 +14,10 @@ use Rattle.rules.specs.Lent.{from_table}
 use Rattle.rules.specs.declared.Refusal.TheVariants.{BadMtu, BadTable, BadEdition, BadPlan}
 use Rattle.plan.specs.declared.Fault.{Fault}
 use Rattle.plan.specs.declared.Fault.TheVariants.{NotHeld, Excluded, NamedBefore, UpToDate, TooMany, TooFew, NoFit, Alone}
-use Rattle.plan.specs.declared.Judged.{Judged}
-use Rattle.plan.specs.declared.Judged.TheVariants as judged
+use Rattle.std.specs.Prelude.{Err, Ok, Result}
+use Rattle.plan.specs.declared.NotSent.{NotSent}
+use Rattle.rules.specs.Results.{done}
+use Rattle.plan.specs.declared.NotSent.TheVariants as not_sent
 use Rattle.plan.specs.Plan.{line_ops}
 
 -- ---- the numbers
@@ -31,10 +33,10 @@ fault_code NoFit = 7
 fault_code Alone = 8
 
 -- where a line is at fault, number 23 with the line and the fault's number
-unfoldable pub judged_told : Judged → Told
-judged_told judged.Accepted = accepted []
-judged_told (judged.AtFault line why) = refused BadPlan (line ∷ fault_code why ∷ [])
-judged_told (judged.Refused r) = refused r []
+unfoldable pub judged_told : (Result (Unit {0}) NotSent) → Told
+judged_told (Ok _) = accepted []
+judged_told (Err (not_sent.AtFault line why)) = refused BadPlan (line ∷ fault_code why ∷ [])
+judged_told (Err (not_sent.Refused r)) = refused r []
 
 -- ---- a line
 
@@ -72,35 +74,35 @@ line_size ds i c (some n) = size_of_line c (stale_held ds i n)
 -- ---- the lines
 
 -- by what the line was found to be, with what the lines behind it come to
-abbrev pub or_else : (line : ℕ) (fault : Option Fault) (rest : Judged) → Judged
+abbrev pub or_else : (line : ℕ) (fault : Option Fault) (rest : (Result (Unit {0}) NotSent)) → (Result (Unit {0}) NotSent)
 or_else line none rest = rest
-or_else line (some why) rest = judged.AtFault line why
+or_else line (some why) rest = (Err (not_sent.AtFault line why))
 
 -- the lines from this one on: those before it name these nodes and leave so many bytes of the MTU
-unfoldable pub judge_from : (excluded : List ℕ) (ds : List NodeDigest) (table : Table) (line : ℕ) (before : List ℕ) (left : ℕ) (nodes counts : List ℕ) → Judged
-judge_from excluded ds t line before left [] [] = judged.Accepted
-judge_from excluded ds t line before left [] (c ∷ cs) = judged.AtFault line Alone
-judge_from excluded ds t line before left (i ∷ is) [] = judged.AtFault line Alone
+unfoldable pub judge_from : (excluded : List ℕ) (ds : List NodeDigest) (table : Table) (line : ℕ) (before : List ℕ) (left : ℕ) (nodes counts : List ℕ) → (Result (Unit {0}) NotSent)
+judge_from excluded ds t line before left [] [] = done
+judge_from excluded ds t line before left [] (c ∷ cs) = (Err (not_sent.AtFault line Alone))
+judge_from excluded ds t line before left (i ∷ is) [] = (Err (not_sent.AtFault line Alone))
 judge_from excluded ds t line before left (i ∷ is) (c ∷ cs) =
     or_else line (line_fault excluded before left ds i c (node_of i t))
     (judge_from excluded ds t (suc line) (before ++ (i ∷ [])) (left - line_size ds i c (node_of i t)) is cs)
 
-unfoldable pub judge : (excluded nodes counts : List ℕ) (mtu : ℕ) (ds : List NodeDigest) (table : Table) → Judged
+unfoldable pub judge : (excluded nodes counts : List ℕ) (mtu : ℕ) (ds : List NodeDigest) (table : Table) → (Result (Unit {0}) NotSent)
 judge excluded nodes counts mtu ds t = judge_from excluded ds t 0 [] mtu nodes counts
 
 -- ---- as a call: 20, 7, the digest's numbers, then what the lines come to. No datagram is lent, so that 8 cannot come.
 
-abbrev pub judge_on : (excluded nodes counts : List ℕ) (mtu : ℕ) (read : DigestRead) (table : Table) → Judged
+abbrev pub judge_on : (excluded nodes counts : List ℕ) (mtu : ℕ) (read : DigestRead) (table : Table) → (Result (Unit {0}) NotSent)
 judge_on excluded nodes counts mtu (Entries ds rest) t = judge excluded nodes counts mtu ds t
-judge_on excluded nodes counts mtu (Refused r) t = judged.Refused r
+judge_on excluded nodes counts mtu (Refused r) t = (Err (not_sent.Refused r))
 
-abbrev pub judge_for : (excluded nodes counts : List ℕ) (mtu : ℕ) (read : DigestRead) (table : Table) → Judged
-judge_for excluded nodes counts mtu read t = pick (leb least_mtu mtu && leb mtu max_delta) (judge_on excluded nodes counts mtu read t) (judged.Refused BadMtu)
+abbrev pub judge_for : (excluded nodes counts : List ℕ) (mtu : ℕ) (read : DigestRead) (table : Table) → (Result (Unit {0}) NotSent)
+judge_for excluded nodes counts mtu read t = pick (leb least_mtu mtu && leb mtu max_delta) (judge_on excluded nodes counts mtu read t) (Err (not_sent.Refused BadMtu))
 
-unfoldable pub judge_plan : (edition : ℕ) (excluded nodes counts : List ℕ) (mtu : ℕ) (digest : Bytes) (table : Table) → Judged
+unfoldable pub judge_plan : (edition : ℕ) (excluded nodes counts : List ℕ) (mtu : ℕ) (digest : Bytes) (table : Table) → (Result (Unit {0}) NotSent)
 judge_plan edition excluded nodes counts mtu digest t =
-    pick (is_edition edition) (judge_for excluded nodes counts mtu (read_digest edition digest) t) (judged.Refused BadEdition)
+    pick (is_edition edition) (judge_for excluded nodes counts mtu (read_digest edition digest) t) (Err (not_sent.Refused BadEdition))
 
 -- on lent memory: 14, then as above
-abbrev pub lent_judge : (edition : ℕ) (excluded nodes counts : List ℕ) (mtu : ℕ) (digest table : Bytes) → Judged
-lent_judge edition excluded nodes counts mtu digest table = from_table (judged.Refused BadTable) (judge_plan edition excluded nodes counts mtu digest) table
+abbrev pub lent_judge : (edition : ℕ) (excluded nodes counts : List ℕ) (mtu : ℕ) (digest table : Bytes) → (Result (Unit {0}) NotSent)
+lent_judge edition excluded nodes counts mtu digest table = from_table (Err (not_sent.Refused BadTable)) (judge_plan edition excluded nodes counts mtu digest) table

@@ -13,8 +13,9 @@ use Rattle.rules.specs.Delta.{Op, NodeOp, delta_bytes}
 use Rattle.rules.specs.Compute.{StaleNode, stale_nodes, from_for, stale_of, body_ops, written}
 use Rattle.rules.specs.Lent.{from_table}
 use Rattle.rules.specs.declared.Refusal.TheVariants.{BadMtu, NoPlace, BadTable, BadEdition, BadPlan}
-use Rattle.rules.specs.declared.Computed.{Computed}
-use Rattle.rules.specs.declared.Computed.TheVariants as computed
+use Rattle.std.specs.Prelude.{Err, Result}
+use Rattle.rules.specs.declared.Refusal.{Refusal}
+use Rattle.rules.specs.declared.Sent.{Sent}
 
 -- ---- a line: a node's number and a count
 
@@ -68,27 +69,27 @@ accepts excluded nodes counts mtu ds t =
 -- ---- computing by a plan as a call
 
 -- 23 where the plan is not accepted; else its delta goes into the datagram whole
-abbrev pub on_plan : (excluded nodes counts : List ℕ) (mtu place : ℕ) (ds : List NodeDigest) (table : Table) (datagram : Bytes) → Given Computed Bytes
+abbrev pub on_plan : (excluded nodes counts : List ℕ) (mtu place : ℕ) (ds : List NodeDigest) (table : Table) (datagram : Bytes) → Given (Result Sent Refusal) Bytes
 on_plan excluded nodes counts mtu place ds t l =
-    pick (accepts excluded nodes counts mtu ds t) (written (delta_by excluded nodes counts ds t) place l) (given (computed.Refused BadPlan) l)
+    pick (accepts excluded nodes counts mtu ds t) (written (delta_by excluded nodes counts ds t) place l) (given (Err BadPlan) l)
 
-abbrev pub plan_on : (excluded nodes counts : List ℕ) (mtu place : ℕ) (read : DigestRead) (table : Table) (datagram : Bytes) → Given Computed Bytes
+abbrev pub plan_on : (excluded nodes counts : List ℕ) (mtu place : ℕ) (read : DigestRead) (table : Table) (datagram : Bytes) → Given (Result Sent Refusal) Bytes
 plan_on excluded nodes counts mtu place (Entries ds rest) t l = on_plan excluded nodes counts mtu place ds t l
-plan_on excluded nodes counts mtu place (Refused r) t l = given (computed.Refused r) l
+plan_on excluded nodes counts mtu place (Refused r) t l = given (Err r) l
 
 -- 7, 8 (a whole MTU must be free), what the reading of the digest says, then 23
-abbrev pub plan_for : (excluded nodes counts : List ℕ) (mtu place : ℕ) (read : DigestRead) (table : Table) (datagram : Bytes) → Given Computed Bytes
+abbrev pub plan_for : (excluded nodes counts : List ℕ) (mtu place : ℕ) (read : DigestRead) (table : Table) (datagram : Bytes) → Given (Result Sent Refusal) Bytes
 plan_for excluded nodes counts mtu place read t l =
     pick (leb least_mtu mtu && leb mtu max_delta)
-    (pick (fits_at place mtu l) (plan_on excluded nodes counts mtu place read t l) (given (computed.Refused NoPlace) l))
-    (given (computed.Refused BadMtu) l)
+    (pick (fits_at place mtu l) (plan_on excluded nodes counts mtu place read t l) (given (Err NoPlace) l))
+    (given (Err BadMtu) l)
 
 -- 20, then as above
-unfoldable pub compute_plan : (edition : ℕ) (excluded nodes counts : List ℕ) (mtu place : ℕ) (digest : Bytes) (table : Table) (datagram : Bytes) → Given Computed Bytes
+unfoldable pub compute_plan : (edition : ℕ) (excluded nodes counts : List ℕ) (mtu place : ℕ) (digest : Bytes) (table : Table) (datagram : Bytes) → Given (Result Sent Refusal) Bytes
 compute_plan edition excluded nodes counts mtu place digest t l =
-    pick (is_edition edition) (plan_for excluded nodes counts mtu place (read_digest edition digest) t l) (given (computed.Refused BadEdition) l)
+    pick (is_edition edition) (plan_for excluded nodes counts mtu place (read_digest edition digest) t l) (given (Err BadEdition) l)
 
 -- on lent memory: 14, then as above
-abbrev pub lent_compute_plan : (edition : ℕ) (excluded nodes counts : List ℕ) (mtu place : ℕ) (digest datagram table : Bytes) → Given Computed Bytes
+abbrev pub lent_compute_plan : (edition : ℕ) (excluded nodes counts : List ℕ) (mtu place : ℕ) (digest datagram table : Bytes) → Given (Result Sent Refusal) Bytes
 lent_compute_plan edition excluded nodes counts mtu place digest datagram table =
-    from_table (given (computed.Refused BadTable) datagram) (λ t. compute_plan edition excluded nodes counts mtu place digest t datagram) table
+    from_table (given (Err BadTable) datagram) (λ t. compute_plan edition excluded nodes counts mtu place digest t datagram) table

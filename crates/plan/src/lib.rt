@@ -46,10 +46,9 @@ impl Fault {
     }
 }
 
-// What is said of a plan: that it is accepted, the first line of it that is at fault and why, or why it was not looked at.
+// Why a plan cannot be sent: the first line at fault, counted from 0, and what is wrong with it; or the call is refused.
 #[derive(Clone, Copy)]
-pub enum Judged {
-    Accepted,
+pub enum NotSent {
     AtFault { line: usize, why: Fault },
     Refused(Refusal),
 }

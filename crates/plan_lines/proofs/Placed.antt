@@ -10,8 +10,8 @@ use lib.ListN.{get_or, length, length-map, take}
 use borrow.Author.Tests.{eq-eqb, eqb-true, le-ltb, lt-ltb, lt-leb, le-leb, ltb-true, ltb-false}
 use Rattle.fields.specs.Choice.{pick}
 use Rattle.fields.specs.Numbers.{Bytes}
-use Rattle.fields.specs.declared.Order.{Order}
-use Rattle.fields.specs.declared.Order.TheVariants.{Less, More, Same}
+use Rattle.std.specs.declared.cmp.Ordering.{Ordering}
+use Rattle.std.specs.declared.cmp.Ordering.TheVariants.{Less, Equal, Greater}
 use Rattle.rules.proofs.Obeys.{table-facts}
 use Rattle.rules.specs.Compute.{body_ops, stale, stale_of, told_of}
 use Rattle.rules.specs.Delta.{delta_bytes}
@@ -43,8 +43,8 @@ use Rattle.plan.specs.Faults.{count_fault, line_fault, line_size, size_of_line, 
 use Rattle.plan.specs.Plan.{line_ops, named, stale_for}
 use Rattle.plan.specs.declared.Fault.TheVariants.{Excluded, NamedBefore, NoFit, NotHeld, TooFew, TooMany, UpToDate}
 use Rattle.plan_lines.specs.Lines.{as_line, line_at, ops_at}
-use Rattle.plan_lines.specs.declared.Line.{Line}
-use Rattle.plan_lines.specs.declared.Line.TheVariants as line
+use Rattle.std.specs.Prelude.{Err, Ok, Result}
+use Rattle.plan.specs.declared.Fault.{Fault}
 
 -- ---- the stale records, whose places were found in the node's bytes
 
@@ -80,17 +80,17 @@ module _ (l : Bytes) (o : LaidTable l) (p : ℕ) (h : p < nodes_of l) (b : Bytes
 -- ---- its count and its bytes
 
 module _ (c : ℕ) (all : List KeyValue) (size left n : ℕ) (long : length all ≡ n) where
-  abbrev shape : Bool → Bool → Bool → Line
+  abbrev shape : Bool → Bool → Bool → (Result ℕ Fault)
   shape a b d = as_line (pick a (some TooMany) (pick b (some TooFew) (pick d (some NoFit) none))) size
 
   by : {a b d : Bool} → ltb n c ≡ a → (eqb c 0 && ltb 0 n) ≡ b → ltb left size ≡ d → shape a b d ≡ as_line (count_fault c all size left) size
   by p q r =
       (λ i. shape (sym p i) (sym q i) (sym r i)) ∙ ap (λ (m : ℕ). shape (ltb m c) (eqb c 0 && ltb 0 m) (ltb left size)) (sym long)
 
-  pub too_many : n < c → line.Fault TooMany ≡ as_line (count_fault c all size left) size
+  pub too_many : n < c → Err TooMany ≡ as_line (count_fault c all size left) size
   too_many h = by (lt-ltb n c h) refl refl
 
-  pub too_few : c ≤ n → c ≡ 0 → (n ≡ 0 → ⊥) → line.Fault TooFew ≡ as_line (count_fault c all size left) size
+  pub too_few : c ≤ n → c ≡ 0 → (n ≡ 0 → ⊥) → Err TooFew ≡ as_line (count_fault c all size left) size
   too_few h z s = by (le-ltb n c h) (λ i. eq-eqb c 0 z i && lt-ltb 0 n (omega (arith, s)) i) refl
 
   fits-so : (c ≡ 0 → n ≡ 0) → (eqb c 0 && ltb 0 n) ≡ false
@@ -100,10 +100,10 @@ module _ (c : ℕ) (all : List KeyValue) (size left n : ℕ) (long : length all 
       go true q = let z = f (eqb-true c 0 q) in le-ltb 0 n (omega arith)
       go false q = refl
 
-  pub no-fit : c ≤ n → (c ≡ 0 → n ≡ 0) → left < size → line.Fault NoFit ≡ as_line (count_fault c all size left) size
+  pub no-fit : c ≤ n → (c ≡ 0 → n ≡ 0) → left < size → Err NoFit ≡ as_line (count_fault c all size left) size
   no-fit h f g = by (le-ltb n c h) (fits-so f) (lt-ltb left size g)
 
-  pub it-fits : c ≤ n → (c ≡ 0 → n ≡ 0) → size ≤ left → line.Bytes size ≡ as_line (count_fault c all size left) size
+  pub it-fits : c ≤ n → (c ≡ 0 → n ≡ 0) → size ≤ left → Ok size ≡ as_line (count_fault c all size left) size
   it-fits h f g = by (le-ltb n c h) (fits-so f) (le-ltb left size g)
 
 -- ---- the node at its place
@@ -111,28 +111,28 @@ module _ (c : ℕ) (all : List KeyValue) (size left n : ℕ) (long : length all 
 free-not-at : {X : Type 0} {i j : ℕ} → Free i ≡ At j → X
 free-not-at e = let z : ◌≡◌ {A = ℕ} 0 1 = cc in absurd (omega arith)
 
-found-same : {A : Type 0} (g : A → Order) (l : List A) (d : A) (j : ℕ) → find_by g l ≡ At j → g (get_or l j d) ≡ Same
+found-same : {A : Type 0} (g : A → Ordering) (l : List A) (d : A) (j : ℕ) → find_by g l ≡ At j → g (get_or l j d) ≡ Equal
 unfolding find_by
 found-same g [] d j e = free-not-at e
 found-same {A} g (a ∷ l) d j e = go (g a) refl e (found-same g l d)
   where
-    next : (r : Place) → find_by g l ≡ r → further 1 r ≡ At j → ((m : ℕ) → find_by g l ≡ At m → g (get_or l m d) ≡ Same) → g (get_or (a ∷ l) j d) ≡ Same
+    next : (r : Place) → find_by g l ≡ r → further 1 r ≡ At j → ((m : ℕ) → find_by g l ≡ At m → g (get_or l m d) ≡ Equal) → g (get_or (a ∷ l) j d) ≡ Equal
     next (At m) q e ih =
         let y : 1 + m ≡ j = cc in
         let s : j ≡ suc m = omega arith in
         rw s (ih m q)
     next (Free m) q e ih = free-not-at e
 
-    go : (o : Order) → g a ≡ o → seek o (find_by g l) ≡ At j → ((m : ℕ) → find_by g l ≡ At m → g (get_or l m d) ≡ Same) → g (get_or (a ∷ l) j d) ≡ Same
+    go : (o : Ordering) → g a ≡ o → seek o (find_by g l) ≡ At j → ((m : ℕ) → find_by g l ≡ At m → g (get_or l m d) ≡ Equal) → g (get_or (a ∷ l) j d) ≡ Equal
     go Less q e ih = free-not-at e
-    go Same q e ih = let y : 0 ≡ j = cc in let s : j ≡ 0 = omega arith in rw s q
-    go More q e ih = next (find_by g l) refl e ih
+    go Equal q e ih = let y : 0 ≡ j = cc in let s : j ≡ 0 = omega arith in rw s q
+    go Greater q e ih = next (find_by g l) refl e ih
 
-same_number : (i n : ℕ) → number_order i n ≡ Same → n ≡ i
+same_number : (i n : ℕ) → number_order i n ≡ Equal → n ≡ i
 unfolding number_order
 same_number i n e = go (eqb i n) refl (ltb i n) e
   where
-    go : (b : Bool) → eqb i n ≡ b → (c : Bool) → pick b Same (pick c Less More) ≡ Same → n ≡ i
+    go : (b : Bool) → eqb i n ≡ b → (c : Bool) → pick b Equal (pick c Less Greater) ≡ Equal → n ≡ i
     go true q c e = sym (eqb-true i n q)
     go false q true e = let z : ◌≡◌ {A = ℕ} 0 1 = cc in absurd (omega arith)
     go false q false e = let z : ◌≡◌ {A = ℕ} 0 1 = cc in absurd (omega arith)
@@ -161,10 +161,10 @@ module _ (l : Bytes) (v : valid l ≡ true) (i p : ℕ) (e : find_node i (decode
   stale-is ds = ap (λ (j : ℕ). stale_of (stale_held ds j own)) found_number
 
   module _ (excluded before : List ℕ) (left : ℕ) (ds : List NodeDigest) (c : ℕ) where
-    abbrev whole : Option Node → Line
+    abbrev whole : Option Node → (Result ℕ Fault)
     whole o = as_line (line_fault excluded before left ds i c o) (line_size ds i c o)
 
-    abbrev shaped : Bool → Bool → Bool → Line
+    abbrev shaped : Bool → Bool → Bool → (Result ℕ Fault)
     shaped a b m =
         as_line
         (pick a (some Excluded)
@@ -174,10 +174,10 @@ module _ (l : Bytes) (v : valid l ≡ true) (i p : ℕ) (e : find_node i (decode
     with-tests : {a b m : Bool} → among i excluded ≡ a → among i before ≡ b → leb own.max (told_of i ds).max ≡ m → shaped a b m ≡ whole (node_of i t)
     with-tests x y z = (λ k. shaped (sym x k) (sym y k) (sym z k)) ∙ ap whole (sym found-node)
 
-    pub is-left-out : among i excluded ≡ true → line.Fault Excluded ≡ whole (node_of i t)
+    pub is-left-out : among i excluded ≡ true → Err Excluded ≡ whole (node_of i t)
     is-left-out x = with-tests x refl refl
 
-    pub is-named : among i excluded ≡ false → among i before ≡ true → line.Fault NamedBefore ≡ whole (node_of i t)
+    pub is-named : among i excluded ≡ false → among i before ≡ true → Err NamedBefore ≡ whole (node_of i t)
     is-named x y = with-tests x y refl
 
     behind-is : is_stale [] ds t p ≡ ltb (told_of i ds).max own.max
@@ -185,10 +185,10 @@ module _ (l : Bytes) (v : valid l ≡ true) (i p : ℕ) (e : find_node i (decode
     behind-is = ap (λ (j : ℕ). ltb (told_of j ds).max own.max) found_number
 
     module _ (x : among i excluded ≡ false) (y : among i before ≡ false) where
-      pub is-level : is_stale [] ds t p ≡ false → line.Fault UpToDate ≡ whole (node_of i t)
+      pub is-level : is_stale [] ds t p ≡ false → Err UpToDate ≡ whole (node_of i t)
       is-level s = with-tests x y (le-leb own.max (told_of i ds).max (ltb-false _ _ (sym behind-is ∙ s)))
 
-      pub is-weighed : is_stale [] ds t p ≡ true → (from : ℕ) → from ≡ from_at ds t p → (r : Line)
+      pub is-weighed : is_stale [] ds t p ≡ true → (from : ℕ) → from ≡ from_at ds t p → (r : (Result ℕ Fault))
           → r ≡ as_line (count_fault c (stale from own.recs) (length (delta_bytes (line_at t p from c))) left) (length (delta_bytes (line_at t p from c)))
           → r ≡ whole (node_of i t)
       is-weighed s from f r g =
@@ -218,7 +218,7 @@ module _ (l : Bytes) (v : valid l ≡ true) (i p : ℕ) (e : find_node i (decode
 
 module _ (l : Bytes) (v : valid l ≡ true) (i j : ℕ) (e : find_node i (decode l) ≡ Free j) where
   pub is-missing : (excluded before : List ℕ) (left : ℕ) (ds : List NodeDigest) (c : ℕ)
-      → line.Fault NotHeld ≡ as_line (line_fault excluded before left ds i c (node_of i (decode l))) (line_size ds i c (node_of i (decode l)))
+      → Err NotHeld ≡ as_line (line_fault excluded before left ds i c (node_of i (decode l))) (line_size ds i c (node_of i (decode l)))
   is-missing excluded before left ds c =
       ap (λ (o : Option Node). as_line (line_fault excluded before left ds i c o) (line_size ds i c o)) (sym (node-missing l v i j e))
 

@@ -21,7 +21,7 @@ use Rattle.plan.proofs.Judging.{bytes-append}
 use Rattle.compute.specs.Lined.{at_front}
 use Rattle.compute_write.proofs.Steps.{Reached, Writing, back, gives, lent, outcome, writing}
 use Rattle.compute_write.specs.Sending.{behind, counts, sending}
-use Rattle.compute_write.specs.declared.Sent.{Sent}
+use Rattle.rules.specs.declared.Sent.{Sent}
 use Rattle.plan_lines.proofs.First.{bytes-cons}
 
 -- what fits is not cut

@@ -15,19 +15,19 @@ use Rattle.plan.specs.Faults.{judge, judge_from, line_fault, line_size, or_else}
 use Rattle.plan.specs.Plan.{line_ops, named, plan_ops}
 use Rattle.plan.specs.declared.Fault.{Fault}
 use Rattle.plan.specs.declared.Fault.TheVariants.{Alone}
-use Rattle.plan.specs.declared.Judged.{Judged}
-use Rattle.plan.specs.declared.Judged.TheVariants as judged
+use Rattle.std.specs.Prelude.{Err, Ok, Result}
+use Rattle.plan.specs.declared.NotSent.{NotSent}
+use Rattle.rules.specs.Results.{done}
+use Rattle.plan.specs.declared.NotSent.TheVariants as not_sent
 use Rattle.plan_lines.specs.Lines.{as_line}
-use Rattle.plan_lines.specs.declared.Line.{Line}
-use Rattle.plan_lines.specs.declared.Line.TheVariants as line
 
 -- ---- what an answer says
 
-is-bytes : (f : Option Fault) (size n : ℕ) → line.Bytes n ≡ as_line f size → (f ≡ none) × (n ≡ size)
+is-bytes : (f : Option Fault) (size n : ℕ) → Ok n ≡ as_line f size → (f ≡ none) × (n ≡ size)
 is-bytes none size n e = (refl, cc)
 is-bytes (some why) size n e = let z : ◌≡◌ {A = ℕ} 0 1 = cc in absurd (omega arith)
 
-is-fault : (f : Option Fault) (size : ℕ) (why : Fault) → line.Fault why ≡ as_line f size → f ≡ some why
+is-fault : (f : Option Fault) (size : ℕ) (why : Fault) → Err why ≡ as_line f size → f ≡ some why
 is-fault none size why e = let z : ◌≡◌ {A = ℕ} 0 1 = cc in absurd (omega arith)
 is-fault (some x) size why e = let same : why ≡ x = cc in ap some (sym same)
 
@@ -35,23 +35,23 @@ is-fault (some x) size why e = let same : why ≡ x = cc in ap some (sym same)
 
 module _ (excluded : List ℕ) (ds : List NodeDigest) (t : Table) (nodes counts : List ℕ) where
   -- what the lines from j on come to
-  abbrev pub from-line : ℕ → ℕ → Judged
+  abbrev pub from-line : ℕ → ℕ → (Result (Unit {0}) NotSent)
   from-line j left = judge_from excluded ds t j (take j nodes) left (drop j nodes) (drop j counts)
 
   pub all_lines : (mtu : ℕ) → from-line 0 mtu ≡ judge excluded nodes counts mtu ds t
   unfolding judge
   all_lines mtu = refl
 
-  pub lone-node : (j left : ℕ) → j < length nodes → length counts ≤ j → judged.AtFault j Alone ≡ from-line j left
+  pub lone-node : (j left : ℕ) → j < length nodes → length counts ≤ j → (Err (not_sent.AtFault j Alone)) ≡ from-line j left
   unfolding judge_from
   lone-node j left h g =
       sym (λ i. judge_from excluded ds t j (take j nodes) left (drop-cons nodes j 0 h i) (drop_of_length-le counts {i = j} g i))
 
-  pub lone-count : (j left : ℕ) → length nodes ≤ j → j < length counts → judged.AtFault j Alone ≡ from-line j left
+  pub lone-count : (j left : ℕ) → length nodes ≤ j → j < length counts → (Err (not_sent.AtFault j Alone)) ≡ from-line j left
   unfolding judge_from
   lone-count j left h g = sym (λ i. judge_from excluded ds t j (take j nodes) left (drop_of_length-le nodes {i = j} h i) (drop-cons counts j 0 g i))
 
-  pub no_line : (j left : ℕ) → length nodes ≤ j → length counts ≤ j → judged.Accepted ≡ from-line j left
+  pub no_line : (j left : ℕ) → length nodes ≤ j → length counts ≤ j → done ≡ from-line j left
   unfolding judge_from
   no_line j left h g = sym (λ i. judge_from excluded ds t j (take j nodes) left (drop_of_length-le nodes {i = j} h i) (drop_of_length-le counts {i = j} g i))
 
@@ -62,17 +62,17 @@ module _ (excluded : List ℕ) (ds : List NodeDigest) (t : Table) (nodes counts 
     abbrev size : ℕ
     size = line_size ds (get_or nodes j 0) (get_or counts j 0) (node_of (get_or nodes j 0) t)
 
-    abbrev rest : Judged
+    abbrev rest : (Result (Unit {0}) NotSent)
     rest = judge_from excluded ds t (suc j) (take j nodes ++ (get_or nodes j 0 ∷ [])) (left - size) (drop (suc j) nodes) (drop (suc j) counts)
 
     one_line : from-line j left ≡ or_else j fault rest
     unfolding judge_from
     one_line = λ i. judge_from excluded ds t j (take j nodes) left (drop-cons nodes j 0 h i) (drop-cons counts j 0 g i)
 
-    pub at-fault : (why : Fault) (r : Line) → r ≡ as_line fault size → r ≡ line.Fault why → judged.AtFault j why ≡ from-line j left
+    pub at-fault : (why : Fault) (r : (Result ℕ Fault)) → r ≡ as_line fault size → r ≡ Err why → (Err (not_sent.AtFault j why)) ≡ from-line j left
     at-fault why r e f = sym (one_line ∙ ap (λ (x : Option Fault). or_else j x rest) (is-fault fault size why (sym f ∙ e)))
 
-    pub line-good : (n : ℕ) (r : Line) → r ≡ as_line fault size → r ≡ line.Bytes n → (n ≤ left) × (from-line j left ≡ from-line (j + 1) (left - n))
+    pub line-good : (n : ℕ) (r : (Result ℕ Fault)) → r ≡ as_line fault size → r ≡ Ok n → (n ≤ left) × (from-line j left ≡ from-line (j + 1) (left - n))
     line-good n r e f =
         let k = is-bytes fault size n (sym f ∙ e) in
         let fits = fault-fits excluded ds (get_or nodes j 0) (get_or counts j 0) (take j nodes) left (node_of (get_or nodes j 0) t) k.0 in (

@@ -10,12 +10,11 @@ use Rattle.table_read.specs.Find.{entry_at}
 use Rattle.compute_write.specs.Sending.{node_op_at, record_at}
 use Rattle.plan.specs.declared.Fault.{Fault}
 use Rattle.plan_lines.specs.declared.Above.{Above}
-use Rattle.plan_lines.specs.declared.Line.{Line}
-use Rattle.plan_lines.specs.declared.Line.TheVariants as line
+use Rattle.std.specs.Prelude.{Err, Ok, Result}
 
-abbrev pub as_line : (fault : Option Fault) (size : ℕ) → Line
-as_line none size = line.Bytes size
-as_line (some why) size = line.Fault why
+abbrev pub as_line : (fault : Option Fault) (size : ℕ) → (Result ℕ Fault)
+as_line none size = Ok size
+as_line (some why) size = Err why
 
 -- the records of the node at p at these places
 abbrev pub records_at : (table : Table) (p : ℕ) (places : List ℕ) → List Op

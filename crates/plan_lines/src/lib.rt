@@ -22,21 +22,11 @@ ghost use Rattle.plan.specs.Faults.{count_fault, judge, line_fault, line_size};
 ghost use Rattle.plan.specs.Plan.{line_ops, named, plan_ops, stale_for};
 ghost use Rattle.plan_lines.specs.Lines.{above_of, as_line, line_at, ops_at, records_at, taken};
 
-use compute::Staleness;
-use compute_write::Sent;
-use delta_write::Wrote;
 use digest_read::Digest;
-use plan::{Fault, Judged};
-use rules::wire;
+use plan::{Fault, NotSent};
+use rules::{Sent, wire};
 use table::layout;
 use table_read::Place;
-
-// What a line comes to: how many bytes its operations take, or why it cannot be sent.
-#[derive(Clone, Copy)]
-pub enum Line {
-    Bytes(usize),
-    Fault(Fault),
-}
 
 // Stale records of a node: how many, and how many bytes they take as operations.
 #[derive(Clone, Copy)]
@@ -65,9 +55,7 @@ fn size_of(table: &[u8], p: usize, from: u64, at: &[usize], n: usize, count: usi
     }
     let mut size = wire::NODE_WIDTH;
     let end = n - count;
-    let mut k = n;
-    while end < k {
-        k -= 1;
+    for k in (end..n).rev() {
         let q = at[k];
         size += record_size(table, p, q);
     }
@@ -91,13 +79,11 @@ fn weigh_all(table: &[u8], p: usize, from: u64) -> Above
     let n = fields::byte_at(table::node_of(table, p), layout::RECORD_COUNT);
     let mut count = 0;
     let mut bytes = 0;
-    let mut i = 0;
-    while i < n {
+    for i in 0..n {
         if from < version_at(table, p, i) {
             count += 1;
             bytes += record_size(table, p, i);
         }
-        i += 1;
     }
     Above { count, bytes }
 }
@@ -119,7 +105,7 @@ fn line_size(table: &[u8], p: usize, from: u64, count: usize, all: Above) -> usi
 }
 
 // A line about the node at `p`, so many bytes being left of the MTU: its count, then its bytes.
-fn weigh(table: &[u8], p: usize, from: u64, count: u64, left: usize) -> Line
+fn weigh(table: &[u8], p: usize, from: u64, count: u64, left: usize) -> Result<usize, Fault>
     requires { LaidTable table.now × (p < nodes_of table.now) }
     ensures { result ≡ as_line (count_fault count (stale from (entry_at (decode table.now) p).node.recs)
         (length (delta_bytes (line_at (decode table.now) p from count))) left)
@@ -128,18 +114,18 @@ fn weigh(table: &[u8], p: usize, from: u64, count: u64, left: usize) -> Line
     let all = weigh_all(table, p, from);
     let n = all.count;
     if (n as u64) < count {
-        return Line::Fault(Fault::TooMany);
+        return Err(Fault::TooMany);
     }
     if count == 0 {
         if n != 0 {
-            return Line::Fault(Fault::TooFew);
+            return Err(Fault::TooFew);
         }
     }
     let size = line_size(table, p, from, count as usize, all);
     if left < size {
-        return Line::Fault(Fault::NoFit);
+        return Err(Fault::NoFit);
     }
-    Line::Bytes(size)
+    Ok(size)
 }
 
 // A line behind those that name the nodes `before` and leave so many bytes of the MTU: held, not excluded, named once, stale; then its count and its bytes.
@@ -151,25 +137,25 @@ fn judge_line(
     left: usize,
     number: u64,
     count: u64,
-) -> Line
+) -> Result<usize, Fault>
     requires { valid table.now ≡ true }
     ensures { result ≡ as_line (line_fault excluded.now before.now left (entries_in digest) number count
         (node_of number (decode table.now)))
         (line_size (entries_in digest) number count (node_of number (decode table.now))) }
 {
     let Place::At(p) = table_read::find_node(table, number) else {
-        return Line::Fault(Fault::NotHeld);
+        return Err(Fault::NotHeld);
     };
     if table_read::is_excluded(excluded, number) {
-        return Line::Fault(Fault::Excluded);
+        return Err(Fault::Excluded);
     }
     if table_read::is_excluded(before, number) {
-        return Line::Fault(Fault::NamedBefore);
+        return Err(Fault::NamedBefore);
     }
-    match compute::stale_from(table, p, digest, &excluded[..0]) {
-        Staleness::From(from) => weigh(table, p, from, count, left),
-        Staleness::UpToDate => Line::Fault(Fault::UpToDate),
-    }
+    let Some(from) = compute::stale_from(table, p, digest, &excluded[..0]) else {
+        return Err(Fault::UpToDate);
+    };
+    weigh(table, p, from, count, left)
 }
 
 // The first line that is at fault, or that none is.
@@ -180,18 +166,17 @@ pub fn judge_lines(
     excluded: &[u64],
     nodes: &[u64],
     counts: &[u64],
-) -> Judged
+) -> Result<(), NotSent>
     requires { valid table.now ≡ true }
     ensures { result ≡ judge excluded.now nodes.now counts.now mtu (entries_in digest) (decode table.now) }
 {
     let mut left = mtu;
-    let mut j = 0;
-    while j < nodes.len() {
+    for j in 0..nodes.len() {
         if counts.len() <= j {
-            return Judged::AtFault {
+            return Err(NotSent::AtFault {
                 line: j,
                 why: Fault::Alone,
-            };
+            });
         }
         match judge_line(
             table,
@@ -202,18 +187,17 @@ pub fn judge_lines(
             nodes[j],
             counts[j],
         ) {
-            Line::Bytes(size) => left -= size,
-            Line::Fault(why) => return Judged::AtFault { line: j, why },
+            Ok(size) => left -= size,
+            Err(why) => return Err(NotSent::AtFault { line: j, why }),
         }
-        j += 1;
     }
-    if j < counts.len() {
-        return Judged::AtFault {
-            line: j,
+    if nodes.len() < counts.len() {
+        return Err(NotSent::AtFault {
+            line: nodes.len(),
             why: Fault::Alone,
-        };
+        });
     }
-    Judged::Accepted
+    Ok(())
 }
 
 // The smaller of a line's count and the node's stale records.
@@ -227,15 +211,15 @@ fn taken(count: u64, stale: usize) -> usize
 }
 
 // Writes record `q` of the node at `p`, where it fits; its texts are copied by words.
-fn write_record(table: &[u8], p: usize, q: usize, datagram: &mut [u8]) -> Wrote
+fn write_record(table: &[u8], p: usize, q: usize, datagram: &mut [u8]) -> Option<usize>
     requires { LaidTable table.now × (p < nodes_of table.now) × (q < length (entry_at (decode table.now) p).node.recs) }
     ensures { Gives (write_op (KeyValueOp (record_at (decode table.now) p q)) datagram.old) result datagram.new }
 {
     if datagram.len() < record_size(table, p, q) {
-        return Wrote::NoFit;
+        return None;
     }
     let b = table::record_of(table::node_of(table, p), q);
-    Wrote::Bytes(record_write::store_record(b, datagram))
+    Some(record_write::store_record(b, datagram))
 }
 
 // Writes the records of the node at `p` that stand behind the first `end` of the `n` places, while they fit; the first of the order stands last.
@@ -254,11 +238,9 @@ fn write_records(
 {
     let mut ops = 0;
     let mut used = 0;
-    let mut k = n;
-    while end < k {
-        k -= 1;
+    for k in (end..n).rev() {
         let q = at[k];
-        let Wrote::Bytes(size) = write_record(table, p, q, &mut datagram[used..]) else {
+        let Some(size) = write_record(table, p, q, &mut datagram[used..]) else {
             break;
         };
         ops += 1;
@@ -272,7 +254,7 @@ fn write_line(table: &[u8], p: usize, from: u64, count: u64, datagram: &mut [u8]
     requires { LaidTable table.now × (p < nodes_of table.now) }
     ensures { Gives (sending 0 0 (line_at (decode table.now) p from count) datagram.old) result datagram.new }
 {
-    let Wrote::Bytes(size) = compute_write::write_node(table, p, from, &mut datagram[0..]) else {
+    let Some(size) = compute_write::write_node(table, p, from, &mut datagram[0..]) else {
         return Sent { ops: 0, bytes: 0 };
     };
     let stale = compute_stale::stale_places(table::node_of(table, p), from);
@@ -305,7 +287,7 @@ fn write_named(
     let Place::At(p) = table_read::find_node(table, number) else {
         return Sent { ops: 0, bytes: 0 };
     };
-    let Staleness::From(from) = compute::stale_from(table, p, digest, excluded) else {
+    let Some(from) = compute::stale_from(table, p, digest, excluded) else {
         return Sent { ops: 0, bytes: 0 };
     };
     write_line(table, p, from, count, datagram)
@@ -327,8 +309,7 @@ pub fn write_lines(
 {
     let mut ops = 0;
     let mut used = 0;
-    let mut j = 0;
-    while j < nodes.len() {
+    for j in 0..nodes.len() {
         let sent = write_named(
             table,
             digest,
@@ -339,7 +320,6 @@ pub fn write_lines(
         );
         ops += sent.ops;
         used += sent.bytes;
-        j += 1;
     }
     Sent { ops, bytes: used }
 }

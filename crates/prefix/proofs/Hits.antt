@@ -17,7 +17,7 @@ use Rattle.rules.specs.Given.{Gives}
 use Rattle.rules.specs.Node.{Rec, hidden, hits, hits_from}
 use Rattle.rules.specs.Local.{list_into}
 use Rattle.rules.specs.declared.Refusal.TheVariants.{NoPlace}
-use Rattle.rules.specs.declared.Listed.TheVariants as listed
+use Rattle.std.specs.Prelude.{Err, Ok}
 use Rattle.table.specs.Tests.{count_of, recs_in}
 use Rattle.table.proofs.Places.{rec_at, recs-drop}
 use Rattle.prefix.specs.Run.{RunIn, shown_from, shown_in}
@@ -153,8 +153,8 @@ module _ (k b : List ℕ) (low top start end : ℕ) (fits : top ≤ count_of b) 
 -- ---- into the lent list
 
 module _ (found l : List ℕ) (n : ℕ) (e : n ≡ length found) where
-  pub no_room : length l < n → Gives (list_into found l) (listed.Refused NoPlace) l
+  pub no_room : length l < n → Gives (list_into found l) (Err NoPlace) l
   no_room h = rw (lt-leb (length found) (length l) (omega arith)) (refl, refl)
 
-  pub all_listed : n ≤ length l → (m : List ℕ) → m ≡ put 0 found l → Gives (list_into found l) (listed.Hits n) m
-  all_listed h m q = rw (le-leb (length found) (length l) (omega arith)) (ap listed.Hits e, q)
+  pub all_listed : n ≤ length l → (m : List ℕ) → m ≡ put 0 found l → Gives (list_into found l) (Ok n) m
+  all_listed h m q = rw (le-leb (length found) (length l) (omega arith)) (ap Ok e, q)

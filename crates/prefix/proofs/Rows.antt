@@ -19,8 +19,10 @@ use Rattle.rules.specs.declared.Refusal.{Refusal}
 use Rattle.rules.specs.declared.Refusal.TheVariants.{TooLong, NoNode}
 use Rattle.rules.proofs.Records.{Above, Sorted, key_of}
 use Rattle.table_read.specs.Find.{node_start}
+use Rattle.rules.proofs.Results.{ok-is}
+use Rattle.inspect.specs.declared.Rows.{Rows}
 use Rattle.inspect.specs.Look.{rows_on, node_rows}
-use Rattle.inspect.specs.declared.Rows.TheVariants.{Are, Refused}
+use Rattle.std.specs.Prelude.{Err, Ok, Result}
 use Rattle.prefix.specs.Rows.{earlier, begun, run_rows, prefix_rows_on, prefix_rows}
 use Rattle.prefix.proofs.Run.{early-not, between}
 
@@ -90,22 +92,22 @@ pub record Among (at m all n : ℕ) : Type 0 where
   pub inside : first + m ≤ n
 
 -- a refusal is no rows
-never : (why : Refusal) (at m : ℕ) → Refused why ≡ Are at m → ⊥
+never : (why : Refusal) (at m : ℕ) → ◌≡◌ {A = Result Rows Refusal} (Err why) (Ok (record { at = at; count = m })) → ⊥
 never why at m e = let y : ◌≡◌ {A = ℕ} 0 1 = cc in absurd (omega arith)
 
-among-on : (k : List ℕ) (start : ℕ) (held : Option Node) (at m all n : ℕ) → prefix_rows_on k start held ≡ Are at m → rows_on start held ≡ Are all n → Among at m all n
+among-on : (k : List ℕ) (start : ℕ) (held : Option Node) (at m all n : ℕ) → prefix_rows_on k start held ≡ (Ok (record { at = at; count = m })) → rows_on start held ≡ (Ok (record { at = all; count = n })) → Among at m all n
 among-on k start none at m all n e f = absurd (never NoNode at m e)
 among-on k start (some x) at m all n e f = go (leb (length k) max_key) e
   where
-    go : (t : Bool) → pick t (run_rows k start x.recs) (Refused TooLong) ≡ Are at m → Among at m all n
+    go : (t : Bool) → pick t (run_rows k start x.recs) (Err TooLong) ≡ (Ok (record { at = at; count = m })) → Among at m all n
     go false q = absurd (never TooLong at m q)
     go true q =
         let first : ℕ = length (keep (earlier k) x.recs) in
-        let a : at ≡ start + rec_place first = cc in
-        let b : m ≡ length (keep (begun k) x.recs) = cc in
-        let c : all ≡ start + rec_place 0 = cc in
-        let d : n ≡ length x.recs = cc in
+        let a : at ≡ start + rec_place first = ap (λ (x : Rows). x.at) (sym (ok-is _ _ q)) in
+        let b : m ≡ length (keep (begun k) x.recs) = ap (λ (x : Rows). x.count) (sym (ok-is _ _ q)) in
+        let c : all ≡ start + rec_place 0 = ap (λ (x : Rows). x.at) (sym (ok-is _ _ f)) in
+        let d : n ≡ length x.recs = ap (λ (x : Rows). x.count) (sym (ok-is _ _ f)) in
         record { first = first; begins = omega arith; inside = omega (arith, both-fit k x.recs) }
 
-pub rows-among : (number : ℕ) (k : List ℕ) (t : Table) (at m all n : ℕ) → prefix_rows number k t ≡ Are at m → node_rows number t ≡ Are all n → Among at m all n
+pub rows-among : (number : ℕ) (k : List ℕ) (t : Table) (at m all n : ℕ) → prefix_rows number k t ≡ (Ok (record { at = at; count = m })) → node_rows number t ≡ (Ok (record { at = all; count = n })) → Among at m all n
 rows-among number k t at m all n e f = among-on k (node_start number t) (node_of number t) at m all n e f

@@ -11,8 +11,8 @@ use lib.ListN.{length, get_or}
 use borrow.Author.Tests.{ltb-true, ltb-false, eqb-true, eq-eqb, le-ltb}
 use Rattle.fields.specs.Choice.{pick}
 use Rattle.fields.specs.Order.{less_bytes, starts_with}
-use Rattle.fields.specs.declared.Order.{Order}
-use Rattle.fields.specs.declared.Order.TheVariants.{Less, Same, More}
+use Rattle.std.specs.declared.cmp.Ordering.{Ordering}
+use Rattle.std.specs.declared.cmp.Ordering.TheVariants.{Less, Equal, Greater}
 use Rattle.fields.proofs.Choice.{pick_true, pick-false, in-at}
 use Rattle.fields.proofs.Ordered.{same_true, less-self, less-not, less-trans, order_same, order-less, order-more}
 use Rattle.rules.specs.Node.{Rec}
@@ -84,39 +84,39 @@ module _ (k : List ℕ) (d : Rec) where
   first-in [] = zero-le
   first-in (a ∷ l) = go (to_key k a) (first-in l)
     where
-      go : (o : Order) → place_in (find_key k l) ≤ length l → place_in (seek o (find_key k l)) ≤ suc (length l)
+      go : (o : Ordering) → place_in (find_key k l) ≤ length l → place_in (seek o (find_key k l)) ≤ suc (length l)
       go Less ih = zero-le
-      go Same ih = zero-le
-      go More ih = omega (arith, placed-further (find_key k l))
+      go Equal ih = zero-le
+      go Greater ih = omega (arith, placed-further (find_key k l))
 
   first-early : (l : List Rec) (i : ℕ) → i < place_in (find_key k l) → less_bytes (key_of (get_or l i d)) k ≡ true
   unfolding find_by
   first-early [] i h = absurd (not-suc-le-zero h)
   first-early (a ∷ l) i h = go (to_key k a) refl i h (first-early l)
     where
-      go : (o : Order) → to_key k a ≡ o → (i : ℕ) → i < place_in (seek o (find_key k l)) → ((m : ℕ) → m < place_in (find_key k l) → less_bytes (key_of (get_or l m d)) k ≡ true)
+      go : (o : Ordering) → to_key k a ≡ o → (i : ℕ) → i < place_in (seek o (find_key k l)) → ((m : ℕ) → m < place_in (find_key k l) → less_bytes (key_of (get_or l m d)) k ≡ true)
           → less_bytes (key_of (get_or (a ∷ l) i d)) k ≡ true
       go Less q i h ih = absurd (not-suc-le-zero h)
-      go Same q i h ih = absurd (not-suc-le-zero h)
-      go More q zero h ih = order-more k (key_of a) q
-      go More q (suc i) h ih = ih i (omega (arith, placed-further (find_key k l)))
+      go Equal q i h ih = absurd (not-suc-le-zero h)
+      go Greater q zero h ih = order-more k (key_of a) q
+      go Greater q (suc i) h ih = ih i (omega (arith, placed-further (find_key k l)))
 
   first-late : (l : List Rec) → Sorted l → (i : ℕ) → place_in (find_key k l) ≤ i → i < length l → less_bytes (key_of (get_or l i d)) k ≡ false
   unfolding find_by Sorted Above
   first-late [] s i h g = absurd (not-suc-le-zero g)
   first-late (a ∷ l) s i h g = go (to_key k a) refl i h g (first-late l s.1)
     where
-      go : (o : Order) → to_key k a ≡ o → (i : ℕ) → place_in (seek o (find_key k l)) ≤ i → i < suc (length l)
+      go : (o : Ordering) → to_key k a ≡ o → (i : ℕ) → place_in (seek o (find_key k l)) ≤ i → i < suc (length l)
           → ((m : ℕ) → place_in (find_key k l) ≤ m → m < length l → less_bytes (key_of (get_or l m d)) k ≡ false) → less_bytes (key_of (get_or (a ∷ l) i d)) k ≡ false
       go Less q zero h g ih = less-not k (key_of a) (order-less k (key_of a) q)
       go Less q (suc i) h g ih =
           less-not k (key_of (get_or l i d)) (less-trans k (key_of a) (key_of (get_or l i d)) (order-less k (key_of a) q) (s.0 (get_or l i d) (in-at l i d (le_of_suc-le-suc g))))
-      go Same q zero h g ih = subst (λ (x : List ℕ). less_bytes x k ≡ false) (same_true k (key_of a) (order_same k (key_of a) q)) (less-self k)
-      go Same q (suc i) h g ih =
+      go Equal q zero h g ih = subst (λ (x : List ℕ). less_bytes x k ≡ false) (same_true k (key_of a) (order_same k (key_of a) q)) (less-self k)
+      go Equal q (suc i) h g ih =
           less-not k (key_of (get_or l i d))
           (subst (λ (x : List ℕ). less_bytes x (key_of (get_or l i d)) ≡ true) (sym (same_true k (key_of a) (order_same k (key_of a) q))) (s.0 (get_or l i d) (in-at l i d (le_of_suc-le-suc g))))
-      go More q zero h g ih = absurd (omega (arith, placed-further (find_key k l)))
-      go More q (suc i) h g ih = ih i (omega (arith, placed-further (find_key k l))) (le_of_suc-le-suc g)
+      go Greater q zero h g ih = absurd (omega (arith, placed-further (find_key k l)))
+      go Greater q (suc i) h g ih = ih i (omega (arith, placed-further (find_key k l))) (le_of_suc-le-suc g)
 
 module _ (d : Rec) where
   rises : (l : List Rec) → Sorted l → (i j : ℕ) → i < j → j < length l → less_bytes (key_of (get_or l i d)) (key_of (get_or l j d)) ≡ true

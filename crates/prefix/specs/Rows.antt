@@ -16,8 +16,9 @@ use Rattle.rules.specs.declared.Profile.{Profile}
 use Rattle.rules.specs.declared.Party.{Party}
 use Rattle.rules.specs.declared.Refusal.TheVariants.{TooLong, NoNode, BadTable}
 use Rattle.table_read.specs.Find.{node_start}
+use Rattle.std.specs.Prelude.{Err, Ok, Result}
 use Rattle.inspect.specs.declared.Rows.{Rows}
-use Rattle.inspect.specs.declared.Rows.TheVariants.{Are, Refused}
+use Rattle.rules.specs.declared.Refusal.{Refusal}
 
 -- the key comes before the prefix; it begins with the prefix
 abbrev pub earlier : (prefix : Bytes) (rec : Rec) → Bool
@@ -27,19 +28,19 @@ abbrev pub begun : (prefix : Bytes) (rec : Rec) → Bool
 begun k r = starts_with k r.kv.key
 
 -- of a node whose bytes begin at `start` in a table's
-abbrev pub run_rows : (prefix : Bytes) (start : ℕ) (recs : List Rec) → Rows
-run_rows k start l = Are (start + rec_place (length (keep (earlier k) l))) (length (keep (begun k) l))
+abbrev pub run_rows : (prefix : Bytes) (start : ℕ) (recs : List Rec) → (Result Rows Refusal)
+run_rows k start l = (Ok (record { at = (start + rec_place (length (keep (earlier k) l))); count = (length (keep (begun k) l)) }))
 
-abbrev pub prefix_rows_on : (prefix : Bytes) (start : ℕ) (held : Option Node) → Rows
-prefix_rows_on k start none = Refused NoNode
-prefix_rows_on k start (some n) = pick (leb (length k) max_key) (run_rows k start n.recs) (Refused TooLong)
+abbrev pub prefix_rows_on : (prefix : Bytes) (start : ℕ) (held : Option Node) → (Result Rows Refusal)
+prefix_rows_on k start none = Err NoNode
+prefix_rows_on k start (some n) = pick (leb (length k) max_key) (run_rows k start n.recs) (Err TooLong)
 
-abbrev pub prefix_rows : (number : ℕ) (prefix : Bytes) (table : Table) → Rows
+abbrev pub prefix_rows : (number : ℕ) (prefix : Bytes) (table : Table) → (Result Rows Refusal)
 prefix_rows number k table = prefix_rows_on k (node_start number table) (node_of number table)
 
 -- by a party: of what it sees
-abbrev pub prefix_rows_as : (profile : Profile) (party : Party) (number : ℕ) (prefix : Bytes) (table : Table) → Rows
+abbrev pub prefix_rows_as : (profile : Profile) (party : Party) (number : ℕ) (prefix : Bytes) (table : Table) → (Result Rows Refusal)
 prefix_rows_as p q number k table = prefix_rows number k (seen p q table)
 
-abbrev pub lent_prefix_rows : (party : Party) (number : ℕ) (prefix table : Bytes) → Rows
-lent_prefix_rows q number k table = from_table (Refused BadTable) (prefix_rows_as (decode_whole table).kind.profile q number k) table
+abbrev pub lent_prefix_rows : (party : Party) (number : ℕ) (prefix table : Bytes) → (Result Rows Refusal)
+lent_prefix_rows q number k table = from_table (Err BadTable) (prefix_rows_as (decode_whole table).kind.profile q number k) table

@@ -25,9 +25,9 @@ ghost use Rattle.prefix.specs.Run.{key_at, FirstOf, RunOf, brought_in, RunIn, pi
 ghost use Rattle.prefix.specs.Rows.{prefix_rows_on, prefix_rows_as, lent_prefix_rows};
 
 use inspect::Rows;
-use rules::{Listed, Party, Profile, Record, Refusal, Status};
+use rules::{Party, Profile, Record, Refusal, Status};
 use table::layout;
-use table_read::{Place, Span};
+use table_read::Place;
 
 // The records of a piece of a node's rows whose keys begin with a prefix: those from `start` up to `end`.
 #[derive(Clone, Copy)]
@@ -76,6 +76,7 @@ pub fn run_end(node: &[u8], prefix: &[u8], from: usize) -> usize
 {
     let mut low = from;
     let mut high = fields::byte_at(node, layout::RECORD_COUNT);
+    // By halves, which is fewer comparisons than one place after the other; the two ends move, and no counter.
     while low < high {
         let j = (low + high) / 2;
         if begins(node, j, prefix) {
@@ -121,12 +122,10 @@ fn count_shown(node: &[u8], low: usize, high: usize) -> usize
     ensures { result ≡ length (shown_in 0 low high node.now) }
 {
     let mut found = 0;
-    let mut j = low;
-    while j < high {
+    for j in low..high {
         if is_shown(node, j) {
             found += 1;
         }
-        j += 1;
     }
     found
 }
@@ -138,33 +137,37 @@ fn write_shown(node: &[u8], base: usize, low: usize, high: usize, out: &mut [u8]
     ensures { Gives (shown_into base low high node.now out.old) result out.new }
 {
     let mut next = 0;
-    let mut j = low;
-    while j < high {
+    for j in low..high {
         if is_shown(node, j) {
             let place = j - base;
             out[next] = place as u8;
             next += 1;
         }
-        j += 1;
     }
     next
 }
 
 // The listing of a piece of one node's rows, `count` of them behind `low`: 1, 8.
-fn in_node(node: &[u8], low: usize, count: usize, prefix: &[u8], out: &mut [u8]) -> Listed
+fn in_node(
+    node: &[u8],
+    low: usize,
+    count: usize,
+    prefix: &[u8],
+    out: &mut [u8],
+) -> Result<usize, Refusal>
     requires { LaidNode node.now × (keys_rise (recs_in node.now) ≡ true) × (low + count ≤ count_of node.now) }
     ensures { Gives (prefix_on prefix.now (some (piece_node low count node.now)) out.old) result out.new }
 {
     if Record::KEY < prefix.len() {
-        return Listed::Refused(Refusal::TooLong);
+        return Err(Refusal::TooLong);
     }
     let run = run_in(node, low, count, prefix);
     if out.len() < run.end - run.start {
         if out.len() < count_shown(node, run.start, run.end) {
-            return Listed::Refused(Refusal::NoPlace);
+            return Err(Refusal::NoPlace);
         }
     }
-    Listed::Hits(write_shown(node, low, run.start, run.end, out))
+    Ok(write_shown(node, low, run.start, run.end, out))
 }
 
 // The listing by a party in the area of a good table of a profile: 2, 1, 8.
@@ -175,21 +178,29 @@ fn list_seen(
     number: u64,
     prefix: &[u8],
     out: &mut [u8],
-) -> Listed
+) -> Result<usize, Refusal>
     requires { (valid area.now ≡ true) × (profile_obeys profile (decode area.now) ≡ true) }
     ensures { Gives (prefixed_as profile party number prefix.now (decode area.now) out.old) result out.new }
 {
-    match table_read::node_span(area, number) {
-        Span::Held { start, end } => {
-            let sight = own_rows::sight_of(&area[start..end], profile, party);
-            in_node(&area[start..end], sight.low, sight.count, prefix, out)
-        }
-        Span::Missing => Listed::Refused(Refusal::NoNode),
-    }
+    let span = table_read::node_span(area, number).ok_or(Refusal::NoNode)?;
+    let sight = own_rows::sight_of(&area[span.start..span.end], profile, party);
+    in_node(
+        &area[span.start..span.end],
+        sight.low,
+        sight.count,
+        prefix,
+        out,
+    )
 }
 
 // The listing by a party in a good table: 2, 1, 8.
-pub fn list_known(table: &[u8], party: Party, number: u64, prefix: &[u8], out: &mut [u8]) -> Listed
+pub fn list_known(
+    table: &[u8],
+    party: Party,
+    number: u64,
+    prefix: &[u8],
+    out: &mut [u8],
+) -> Result<usize, Refusal>
     requires { valid_whole table.now ≡ true }
     ensures { Gives (lent_prefixed party number prefix.now out.old table.now) result out.new }
 {
@@ -198,48 +209,73 @@ pub fn list_known(table: &[u8], party: Party, number: u64, prefix: &[u8], out: &
 }
 
 // The listing by a party in lent bytes: 14, 2, 1, 8.
-pub fn list_prefix(table: &[u8], party: Party, number: u64, prefix: &[u8], out: &mut [u8]) -> Listed
+pub fn list_prefix(
+    table: &[u8],
+    party: Party,
+    number: u64,
+    prefix: &[u8],
+    out: &mut [u8],
+) -> Result<usize, Refusal>
     ensures { Tells listed_told (lent_prefixed party number prefix.now out.old table.now) result out.new }
 {
     if table_check::check_table(table) {
         list_known(table, party, number, prefix, out)
     } else {
-        Listed::Refused(Refusal::BadTable)
+        Err(Refusal::BadTable)
     }
 }
 
 // The records of a piece of one node's rows, `count` of them behind `low`, whose keys begin with the prefix, as if these were all rows of the node, whose bytes
 // begin at `start` in the table: 1.
-fn rows_in(node: &[u8], low: usize, count: usize, start: usize, prefix: &[u8]) -> Rows
+fn rows_in(
+    node: &[u8],
+    low: usize,
+    count: usize,
+    start: usize,
+    prefix: &[u8],
+) -> Result<Rows, Refusal>
     requires { LaidNode node.now × (keys_rise (recs_in node.now) ≡ true) × (low + count ≤ count_of node.now) × (start ≤ table_width) }
     ensures { result ≡ prefix_rows_on prefix.now start (some (piece_node low count node.now)) }
 {
     if Record::KEY < prefix.len() {
-        return Rows::Refused(Refusal::TooLong);
+        return Err(Refusal::TooLong);
     }
     let run = run_in(node, low, count, prefix);
-    Rows::Are {
+    Ok(Rows {
         at: start + table::record_place(run.start - low),
         count: run.end - run.start,
-    }
+    })
 }
 
 // The records of a node that a party sees and whose keys begin with the prefix, tombstones too, in the area of a good table of a profile: 2, 1.
-fn rows_seen(area: &[u8], profile: Profile, party: Party, number: u64, prefix: &[u8]) -> Rows
+fn rows_seen(
+    area: &[u8],
+    profile: Profile,
+    party: Party,
+    number: u64,
+    prefix: &[u8],
+) -> Result<Rows, Refusal>
     requires { (valid area.now ≡ true) × (profile_obeys profile (decode area.now) ≡ true) }
     ensures { result ≡ prefix_rows_as profile party number prefix.now (decode area.now) }
 {
-    match table_read::node_span(area, number) {
-        Span::Held { start, end } => {
-            let sight = own_rows::sight_of(&area[start..end], profile, party);
-            rows_in(&area[start..end], sight.low, sight.count, start, prefix)
-        }
-        Span::Missing => Rows::Refused(Refusal::NoNode),
-    }
+    let span = table_read::node_span(area, number).ok_or(Refusal::NoNode)?;
+    let sight = own_rows::sight_of(&area[span.start..span.end], profile, party);
+    rows_in(
+        &area[span.start..span.end],
+        sight.low,
+        sight.count,
+        span.start,
+        prefix,
+    )
 }
 
 // The same in a good table: 2, 1.
-pub fn prefix_rows_known(table: &[u8], party: Party, number: u64, prefix: &[u8]) -> Rows
+pub fn prefix_rows_known(
+    table: &[u8],
+    party: Party,
+    number: u64,
+    prefix: &[u8],
+) -> Result<Rows, Refusal>
     requires { valid_whole table.now ≡ true }
     ensures { result ≡ lent_prefix_rows party number prefix.now table.now }
 {
@@ -248,12 +284,12 @@ pub fn prefix_rows_known(table: &[u8], party: Party, number: u64, prefix: &[u8])
 }
 
 // The records of a node that a party sees and whose keys begin with the prefix, tombstones too: 14, 2, 1.
-pub fn prefix_rows(table: &[u8], party: Party, number: u64, prefix: &[u8]) -> Rows
+pub fn prefix_rows(table: &[u8], party: Party, number: u64, prefix: &[u8]) -> Result<Rows, Refusal>
     ensures { Says rows_told (lent_prefix_rows party number prefix.now table.now) result }
 {
     if table_check::check_table(table) {
         prefix_rows_known(table, party, number, prefix)
     } else {
-        Rows::Refused(Refusal::BadTable)
+        Err(Refusal::BadTable)
     }
 }

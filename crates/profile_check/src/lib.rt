@@ -42,11 +42,8 @@ fn node_formed(profile: Profile, node: &[u8]) -> bool
     ensures { result ≡ recs_formed profile (recs_in node.now) }
 {
     let n = fields::byte_at(node, layout::RECORD_COUNT);
-    let mut i = 0;
-    while i < n {
-        if record_formed(profile, table::record_of(node, i)) {
-            i += 1;
-        } else {
+    for i in 0..n {
+        if !record_formed(profile, table::record_of(node, i)) {
             return false;
         }
     }
@@ -93,11 +90,8 @@ pub fn check_forms(profile: Profile, area: &[u8]) -> bool
     ensures { result ≡ table_formed profile (decode area.now) }
 {
     let n = fields::byte_at(area, layout::NODE_COUNT);
-    let mut i = 0;
-    while i < n {
-        if node_formed(profile, table::node_of(area, i)) {
-            i += 1;
-        } else {
+    for i in 0..n {
+        if !node_formed(profile, table::node_of(area, i)) {
             return false;
         }
     }
@@ -110,11 +104,8 @@ fn check_nodes(profile: Profile, area: &[u8]) -> bool
     ensures { result ≡ profile_obeys profile (decode area.now) }
 {
     let n = fields::byte_at(area, layout::NODE_COUNT);
-    let mut i = 0;
-    while i < n {
-        if node_obeys(profile, table::node_of(area, i)) {
-            i += 1;
-        } else {
+    for i in 0..n {
+        if !node_obeys(profile, table::node_of(area, i)) {
             return false;
         }
     }

@@ -18,7 +18,8 @@ use Rattle.rules.specs.Node.{Rec}
 use Rattle.rules.specs.Profile.{Kind, and_form, kind, on_read_as, op_in_form, read_delta_as, read_ops_as, roomy_in}
 use Rattle.rules.specs.Table.{Table}
 use Rattle.rules.specs.Whole.{Whole, decode_whole, obeys_whole, valid_whole, with_table}
-use Rattle.rules.specs.declared.Applied.{Applied}
+use Rattle.std.specs.Prelude.{Result}
+use Rattle.rules.specs.declared.DeltaFault.{DeltaFault}
 use Rattle.rules.specs.declared.Profile.{Profile}
 use Rattle.rules.specs.declared.Profile.TheVariants.{Free, Meter, Shared}
 use Rattle.rules.specs.declared.Refusal.TheVariants.{BadForm, TooMany}
@@ -96,7 +97,7 @@ applied-free k o delta now t list h =
 
 -- ---- its bytes
 
-abbrev pub freed_both : Given Applied TableAndList → Given Applied TableAndList
+abbrev pub freed_both : Given (Result ℕ DeltaFault) TableAndList → Given (Result ℕ DeltaFault) TableAndList
 freed_both o = given o.answer (both (freed o.lent.table) o.lent.list)
 
 pub apply-freed : (l : List ℕ) → valid_whole l ≡ true → unshared (decode_whole l).kind.profile ≡ true → (delta : List ℕ) (now : ℕ) (list : List ℕ) → ((applied_told (lent_apply delta now list l).answer).number ≡ 17 → ⊥)
@@ -104,7 +105,7 @@ pub apply-freed : (l : List ℕ) → valid_whole l ≡ true → unshared (decode
 apply-freed l v o delta now list h =
     ap (lent_apply delta now list) (freed-is l v)
     ∙ apply-whole (free w) (free-obeys w ok) delta now list
-    ∙ ap (stored_apply (free w)) (applied-free w.kind o delta now w.table list (λ e. h (ap (λ (o : Given Applied TableAndList). (applied_told o.answer).number) here ∙ e)))
+    ∙ ap (stored_apply (free w)) (applied-free w.kind o delta now w.table list (λ e. h (ap (λ (o : Given (Result ℕ DeltaFault) TableAndList). (applied_told o.answer).number) here ∙ e)))
     ∙ ap (λ (b : List ℕ). given out.answer (both b out.list)) (sym (freed-bytes (with_table out.table w)))
     ∙ sym (ap freed_both here)
   where

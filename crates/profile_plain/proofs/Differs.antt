@@ -22,7 +22,10 @@ use Rattle.rules.specs.Party.{alone}
 use Rattle.rules.specs.Profile.{kind, meter_key, meter_value, profile_obeys, read_delta_as, read_ops_as}
 use Rattle.rules.specs.Table.{Table, among, differ, entry_obeys, keys_rise, node_obeys, node_of, numbers_of, obeys, rec_obeys, rising, versions}
 use Rattle.rules.specs.Whole.{Whole, decode_tail, decode_whole, encode_whole, obeys_whole, valid_whole}
-use Rattle.rules.specs.declared.Applied.{Applied}
+use Rattle.std.specs.Prelude.{Err, Option, Result}
+use Rattle.lookup.specs.declared.Found.{Found}
+use Rattle.rules.specs.declared.DeltaFault.{DeltaFault}
+use Rattle.rules.specs.declared.Refusal.{Refusal}
 use Rattle.rules.specs.declared.Mode.TheVariants as mode
 use Rattle.rules.specs.declared.Party.TheVariants.{Building}
 use Rattle.rules.specs.declared.Profile.{Profile}
@@ -37,12 +40,8 @@ use Rattle.table.proofs.Tables.{decode-encode}
 use Rattle.table.proofs.Wholes.{decode-encode-whole, tail-kind, whole-area, whole-obeys, whole-tail, without-memory}
 use Rattle.lookup.specs.Lookup.{find_as, find_rec, lent_find}
 use Rattle.lookup.specs.Told.{found_told}
-use Rattle.lookup.specs.declared.Found.{Found}
-use Rattle.lookup.specs.declared.Found.TheVariants as found
 use Rattle.inspect.specs.Look.{node_count}
 use Rattle.inspect.specs.Told.{count_told}
-use Rattle.inspect.specs.declared.Count.{Count}
-use Rattle.inspect.specs.declared.Count.TheVariants as count
 use Rattle.demand1.specs.Calls as calls
 use Rattle.demand1.specs.Calls.{leaves}
 use Rattle.profile_plain.specs.Plain.{freed_call}
@@ -69,7 +68,7 @@ late = record { value = 7; fits = ltb-true 7 numbers refl }
 
 applying : (w : Whole) → obeys_whole w ≡ true → (delta : Bytes) (n : ℕ) → (applied_told (apply (ways_in w.kind) delta 7 w.table []).answer).number ≡ n
     → (applied_told (lent_apply delta 7 [] (encode_whole w)).answer).number ≡ n
-applying w o delta n e = ap (λ (x : Given Applied TableAndList). (applied_told x.answer).number) (apply-whole w o delta 7 []) ∙ e
+applying w o delta n e = ap (λ (x : Given (Result ℕ DeltaFault) TableAndList). (applied_told x.answer).number) (apply-whole w o delta 7 []) ∙ e
 
 pub cut-behind : (delta : calls.Received) × Answers (calls.apply (encode_whole (metered [])) delta [] late) 17 9
 unfolding leaves freed_call received applied_told apply all read_delta_as read_ops_as meter_key read_op read_node read_key_value follow nat_of among delta_bytes op_bytes text_bytes flat bytes_of
@@ -115,9 +114,9 @@ not_valid = go (valid_whole l) refl
 pub empty-set : Answers (calls.node-count (encode_whole (metered emptied))) 14 0
 unfolding leaves freed_call from_table count_told
 empty-set = (
-  ap (λ (b : Bool). (count_told (pick b (node_count (decode_whole (encode_whole (metered emptied))).table) (count.Refused BadTable))).number) not_valid,
-  ap (λ (l : Bytes). (count_told (from_table (count.Refused BadTable) node_count l)).number) (freed-bytes (metered emptied))
-      ∙ ap (λ (a : Count). (count_told a).number) (from-whole (free (metered emptied)) (without-memory (kind mode.Plain Free) emptied emptied-obeys (free-formed emptied)) (count.Refused BadTable) node_count),
+  ap (λ (b : Bool). (count_told (pick b (node_count (decode_whole (encode_whole (metered emptied))).table) (Err BadTable))).number) not_valid,
+  ap (λ (l : Bytes). (count_told (from_table (Err BadTable) node_count l)).number) (freed-bytes (metered emptied))
+      ∙ ap (λ (a : (Result ℕ Refusal)). (count_told a).number) (from-whole (free (metered emptied)) (without-memory (kind mode.Plain Free) emptied emptied-obeys (free-formed emptied)) (Err BadTable) node_count),
 )
 
 -- ---- a shared table: a party that looks the other's key up is answered 19 here, and finds it there
@@ -143,8 +142,8 @@ lent-formed = refl
 finding : (w : Whole) → obeys_whole w ≡ true → (n : ℕ) → (found_told (find_as w.kind.profile Building 7 theirs w.table)).number ≡ n
     → (found_told (lent_find Building 7 theirs (encode_whole w))).number ≡ n
 finding w o n e =
-    ap (λ (u : Whole). (found_told (from_table (found.Refused BadTable) (find_as u.kind.profile Building 7 theirs) (encode_whole w))).number) (decode-encode-whole w o)
-    ∙ ap (λ (a : Found). (found_told a).number) (from-whole w o (found.Refused BadTable) (find_as w.kind.profile Building 7 theirs))
+    ap (λ (u : Whole). (found_told (from_table (Err BadTable) (find_as u.kind.profile Building 7 theirs) (encode_whole w))).number) (decode-encode-whole w o)
+    ∙ ap (λ (a : (Result (Option Found) Refusal)). (found_told a).number) (from-whole w o (Err BadTable) (find_as w.kind.profile Building 7 theirs))
     ∙ e
 
 pub sees-theirs : Answers (calls.find (encode_whole shared) theirs late Building) 19 0

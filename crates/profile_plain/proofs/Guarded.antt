@@ -16,8 +16,8 @@ use Rattle.rules.specs.Node.{Call, KeyValue, Node, Rec, Setting, SettingTtl, fin
 use Rattle.rules.specs.Profile.{brings, guard_in, in_form, meter_guard, sizes_fit, smaller}
 use Rattle.rules.specs.Table.{Table, node_of}
 use Rattle.rules.specs.Whole.{Whole, decode_whole, valid_whole}
-use Rattle.rules.specs.declared.Answer.{Answer}
-use Rattle.rules.specs.declared.Answer.TheVariants as plain
+use Rattle.std.specs.Prelude.{Err, Result}
+use Rattle.rules.specs.declared.Refusal.{Refusal}
 use Rattle.rules.specs.declared.Party.{Party}
 use Rattle.rules.specs.declared.Profile.{Profile}
 use Rattle.rules.specs.declared.Profile.TheVariants.{Free, Meter, Shared}
@@ -31,14 +31,14 @@ abbrev Neither : ℕ → Type 0
 Neither n = (n ≡ 17 → ⊥) × (n ≡ 18 → ⊥)
 
 -- an outcome that is neither is that of the free profile
-abbrev AsFree : Outcome Answer → Outcome Answer → Type 0
+abbrev AsFree : Outcome (Result (Unit {0}) Refusal) → Outcome (Result (Unit {0}) Refusal) → Type 0
 AsFree free o = Neither (answer_told o.answer).number → free ≡ o
 
 -- what holds of document 01's call, of 17 and of 18 holds of the call in the meter profile
-meter-as : (q : Party) (c : Call) (i : ℕ) (k : List ℕ) (t : Table) (P : Outcome Answer → Type 0)
+meter-as : (q : Party) (c : Call) (i : ℕ) (k : List ℕ) (t : Table) (P : Outcome (Result (Unit {0}) Refusal) → Type 0)
     → P (call c i k t)
-    → P (gives (plain.Refused BadForm) t)
-    → P (gives (plain.Refused SmallerTotal) t)
+    → P (gives (Err BadForm) t)
+    → P (gives (Err SmallerTotal) t)
     → P (call_as Meter q c i k t)
 unfolding call_as
 meter-as q c i k t P a form total = on (node_of i t)
@@ -68,8 +68,8 @@ wrote : (p : Profile) → unshared p ≡ true → (q : Party) (wanted : ℕ) (v 
 unfolding write_as
 wrote p o q wanted v now i k t = go (eqb wanted (status_byte Set)) (eqb wanted (status_byte Ttl))
   where
-    out : Profile → Bool → Bool → Outcome Answer
-    out r a b = pick a (call_as r q (Setting v) i k t) (pick b (call_as r q (SettingTtl v now) i k t) (gives (plain.Refused BadTag) t))
+    out : Profile → Bool → Bool → Outcome (Result (Unit {0}) Refusal)
+    out r a b = pick a (call_as r q (Setting v) i k t) (pick b (call_as r q (SettingTtl v now) i k t) (gives (Err BadTag) t))
 
     go : (a b : Bool) → AsFree (out Free a b) (out p a b)
     go true b = called p o q (Setting v) i k t
@@ -77,14 +77,14 @@ wrote p o q wanted v now i k t = go (eqb wanted (status_byte Set)) (eqb wanted (
     go false false = λ h. refl
 
 -- of bytes
-module _ (l : List ℕ) (v : valid_whole l ≡ true) (rule : Profile → Table → Outcome Answer) where
-  abbrev bad : Answer
-  bad = plain.Refused BadTable
+module _ (l : List ℕ) (v : valid_whole l ≡ true) (rule : Profile → Table → Outcome (Result (Unit {0}) Refusal)) where
+  abbrev bad : (Result (Unit {0}) Refusal)
+  bad = Err BadTable
 
   abbrev p : Profile
   p = (decode_whole l).kind.profile
 
-  abbrev here : Given Answer (List ℕ)
+  abbrev here : Given (Result (Unit {0}) Refusal) (List ℕ)
   here = on_table bad (rule p) l
 
   good : here ≡ stored_in (decode_whole l) (rule p (decode_whole l).table)
@@ -93,15 +93,15 @@ module _ (l : List ℕ) (v : valid_whole l ≡ true) (rule : Profile → Table �
 
   same : rule Free (decode_whole l).table ≡ rule p (decode_whole l).table → on_table bad (rule Free) l ≡ here
   unfolding on_table
-  same e = ap (λ (o : Outcome Answer). pick (valid_whole l) (stored_in (decode_whole l) o) (given bad l)) e
+  same e = ap (λ (o : Outcome (Result (Unit {0}) Refusal)). pick (valid_whole l) (stored_in (decode_whole l) o) (given bad l)) e
 
   pub as-freed : AsFree (rule Free (decode_whole l).table) (rule p (decode_whole l).table) → Neither (answer_told here.answer).number
       → on_table bad (rule (decode_whole (freed l)).kind.profile) (freed l) ≡ given here.answer (freed here.lent)
   as-freed f h =
-      let n = subst (λ (o : Given Answer (List ℕ)). Neither (answer_told o.answer).number) good h in
+      let n = subst (λ (o : Given (Result (Unit {0}) Refusal) (List ℕ)). Neither (answer_told o.answer).number) good h in
       ap (λ (w : Whole). on_table bad (rule w.kind.profile) (freed l)) (freed-back l v)
       ∙ on-freed l v bad (rule Free)
-      ∙ ap (λ (o : Given Answer (List ℕ)). given o.answer (freed o.lent)) (same (f n))
+      ∙ ap (λ (o : Given (Result (Unit {0}) Refusal) (List ℕ)). given o.answer (freed o.lent)) (same (f n))
 
 module _ (l : List ℕ) (v : valid_whole l ≡ true) (o : unshared (decode_whole l).kind.profile ≡ true) (q : Party) where
   pub call-freed : (c : Call) (i : ℕ) (k : List ℕ) → Neither (answer_told (lent_call q c i k l).answer).number

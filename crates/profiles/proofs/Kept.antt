@@ -26,8 +26,8 @@ use Rattle.rules.specs.declared.Party.{Party}
 use Rattle.rules.specs.declared.Profile.TheVariants.{Free, Meter, Shared}
 use Rattle.rules.specs.declared.Refusal.{Refusal}
 use Rattle.rules.specs.declared.Refusal.TheVariants.{BadForm, Exhausted, NodeFull, SmallerTotal, TooLong}
-use Rattle.rules.specs.declared.Answer.{Answer}
-use Rattle.rules.specs.declared.Answer.TheVariants.{Done, Refused}
+use Rattle.std.specs.Prelude.{Err, Result}
+use Rattle.rules.specs.Results.{done}
 use Rattle.rules.specs.declared.Status.{Status}
 use Rattle.rules.specs.declared.Status.TheVariants.{Set, Delete, Ttl}
 use Rattle.rules.proofs.Calls.{node-ok-in}
@@ -124,7 +124,7 @@ pub beat-formed : (p : Profile) (i : ℕ) (t : Table) → profile_obeys p t ≡ 
 unfolding local_beat
 beat-formed p i t o = go (node_of i t) refl
   where
-    at : (n : Node) → node_of i t ≡ some n → (b : Bool) → profile_obeys p (pick b (gives Done (set_node i (with_heartbeat (beats (n.heartbeat.0 + 1)) n) t)) (gives (Refused Exhausted) t)).table ≡ true
+    at : (n : Node) → node_of i t ≡ some n → (b : Bool) → profile_obeys p (pick b (gives done (set_node i (with_heartbeat (beats (n.heartbeat.0 + 1)) n) t)) (gives (Err Exhausted) t)).table ≡ true
     at n q true = set-formed p i (with_heartbeat (beats (n.heartbeat.0 + 1)) n) t o (node-obeys p i t o q)
     at n q false = o
 
@@ -139,7 +139,7 @@ gc-formed p now grace t h = removed-formed p (λ i. due now grace) t h
 -- ---- the local calls
 
 -- by the node's rules
-is_call : (p : Profile) (q : Party) (c : Call) (i : ℕ) (k : List ℕ) (t : Table) (P : Outcome Answer → Type 0) → P (unless_guarded (guard_in p q c k (node_of i t)) (call_on c i k (node_of i t) t) t) → P (call_as p q c i k t)
+is_call : (p : Profile) (q : Party) (c : Call) (i : ℕ) (k : List ℕ) (t : Table) (P : Outcome (Result (Unit {0}) Refusal) → Type 0) → P (unless_guarded (guard_in p q c k (node_of i t)) (call_on c i k (node_of i t) t) t) → P (call_as p q c i k t)
 unfolding call_as call
 is_call p q c i k t P x = x
 

@@ -16,15 +16,12 @@ use table::layout;
 const MASK: usize = 2 * Record::VALUE;
 
 // As many bytes that drop as a value has room for, and as many that keep.
+#[tactic(auto, unfolding(crate::specs::Mask::mask_bytes))]
 fn mask() -> [u8; MASK]
     ensures { result ≡ mask_bytes }
 {
     let mut m = [0u8; MASK];
-    let mut i = Record::VALUE;
-    while i < MASK {
-        m[i] = 255;
-        i += 1;
-    }
+    m[Record::VALUE..].fill(255);
     m
 }
 
@@ -35,10 +32,8 @@ fn clean_behind(record: &[u8], at: usize, n: usize, k: usize, m: &[u8]) -> bool
     ensures { result ≡ clean at n k «record».now }
 {
     let mut seen: u8 = 0;
-    let mut i = 0;
-    while i < n {
-        seen = seen | (record[at + i] & m[Record::VALUE - k + i]);
-        i += 1;
+    for i in 0..n {
+        seen |= record[at + i] & m[Record::VALUE - k + i];
     }
     seen == 0
 }
@@ -79,11 +74,8 @@ pub fn check_records(node: &[u8], n: usize, max: u64) -> bool
     ensures { result ≡ all_blocks (rec_good max) rec_width n (drop (rec_place 0) node.now) }
 {
     let m = mask();
-    let mut i = 0;
-    while i < n {
-        if check_record(table::record_of(node, i), max, &m) {
-            i += 1;
-        } else {
+    for i in 0..n {
+        if !check_record(table::record_of(node, i), max, &m) {
             return false;
         }
     }

@@ -22,11 +22,6 @@ pub none-copied : (at start : ℕ) (src l : Bytes) → l ≡ put at (part start 
 unfolding part
 none-copied at start src l = sym (put-nil at l)
 
-pub copied-long : (at start i : ℕ) (src l s : Bytes) → start + i ≤ length src → at + i ≤ length l → s ≡ put at (part start i src) l → length s ≡ length l
-copied-long at start i src l s h g e =
-    let long : length (part start i src) ≡ i = length_part start i src h in
-    ap length e ∙ length-put at (part start i src) l (omega (arith, long, g))
-
 pub next_word : (at start i : ℕ) (src l s : Bytes) → AreBytes src → start + (i + 8) ≤ length src → at + (i + 8) ≤ length l → s ≡ put at (part start i src) l
     → put (at + i) (bytes_of 8 (nat_of (part (start + i) 8 src))) s ≡ put at (part start (i + 8) src) l
 next_word at start i src l s b h g e =

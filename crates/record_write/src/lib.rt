@@ -19,12 +19,12 @@ fn copy_words(s: &mut [u8], at: usize, src: &[u8], start: usize, n: usize) -> us
     requires { (at + n + 7 ≤ length s.old) × (start + n + 7 ≤ length src.now) }
     ensures { (n ≤ result) × (result ≤ n + 7) × (s.new ≡ put at (part start result src.now) s.old) }
 {
-    let mut i = 0;
-    while i < n {
-        fields::write_u64(s, at + i, fields::read_u64(src, start + i));
-        i += 8;
+    // Rounded up by hand: the library's `div_ceil` asks for a 64-bit multiply, which the smallest processors lack.
+    let words = (n + 7) / 8;
+    for i in 0..words {
+        fields::write_u64(s, at + 8 * i, fields::read_u64(src, start + 8 * i));
     }
-    i
+    8 * words
 }
 
 // Stores a text of `n` bytes behind its length, and up to seven bytes more; answers how many of `src` that are.

@@ -11,8 +11,6 @@ use native.Mathlib.Nat.{add-mul, add-zero}
 use native.Mathlib.Numerals.{add-one}
 use lib.ListN.{length, get_or, set, take, drop, length-take, length-drop, length-set, take-append-drop, drop_of_length-le}
 use lib.Seq.{length-take-le, take_all, drop-cons, set_split, take-suc-set, drop-set-lt}
-use lib.Dec.{leb, ltb}
-use borrow.Author.Tests.{leb-true, leb-false, lt-ltb, le-ltb}
 use Rattle.fields.specs.Choice.{pick, keep, ◌∈◌}
 use Rattle.fields.specs.Numbers.{bytes_of}
 use Rattle.fields.specs.Parts.{part, put}
@@ -41,19 +39,6 @@ use Rattle.table.proofs.Changed.{table-set}
 use Rattle.table.proofs.Laid.{laid-rec, laid-at}
 use Rattle.table_write.proofs.Steps.{put-steps}
 use Rattle.removal.specs.Removals.{due_within, first_going, with_gone, with_first, removed, remove_within}
-
--- ---- the clock
-
-module _ (start time grace : ℕ) where
-  pub early : time < start → false ≡ not (ltb time (start + grace))
-  early h = ap not (sym (lt-ltb time (start + grace) (omega arith)))
-
-  pub over : start ≤ time → leb grace (time - start) ≡ not (ltb time (start + grace))
-  over h = go (leb grace (time - start)) refl
-    where
-      go : (t : Bool) → leb grace (time - start) ≡ t → t ≡ not (ltb time (start + grace))
-      go true e = ap not (sym (le-ltb time (start + grace) (omega (arith, leb-true grace (time - start) e))))
-      go false e = ap not (sym (lt-ltb time (start + grace) (omega (arith, leb-false grace (time - start) e))))
 
 -- ---- the records of a node
 

@@ -6,7 +6,7 @@
 // a record goes only if its version is within the bound. The functions above them go from one record to one node.
 #![tactic(auto)]
 
-ghost use Rattle.std.specs.Prelude.{◌≡◌, true, not, ◌&&◌, ◌+◌, ◌≤◌, ◌<◌, max, leb, ltb};
+ghost use Rattle.std.specs.Prelude.{◌≡◌, true, not, ◌&&◌, ◌+◌, ◌≤◌, ◌<◌, leb, ltb};
 ghost use Rattle.rules.specs.Answers.{answer_told};
 ghost use Rattle.rules.specs.Given.{Tells};
 ghost use Rattle.rules.specs.Node.{goes, due};
@@ -19,27 +19,21 @@ ghost use Rattle.table.specs.Places.{rec_at};
 ghost use Rattle.table.specs.Changes.{with_rec_at};
 ghost use Rattle.removal.specs.Removals.{due_within, first_going, with_gone, with_first, removed, remove_within};
 
-use rules::{Answer, Refusal, Status, sizes};
+use rules::{Refusal, Status, sizes};
 use table::layout;
 
 // Whether the grace of a record that is scheduled from `start` is over.
 fn is_due(start: u64, clock: u64, grace: u64) -> bool
     ensures { result ≡ not (ltb clock (start + grace)) }
 {
-    if clock < start {
-        return false;
-    }
-    grace <= clock - start
+    start <= clock && grace <= clock - start
 }
 
 // Whether a scheduled record goes: its grace is over, and its version is within the bound.
 fn may_go(start: u64, version: u64, clock: u64, grace: u64, bound: u64) -> bool
     ensures { result ≡ (not (ltb clock (start + grace)) && leb version bound) }
 {
-    if is_due(start, clock, grace) {
-        return version <= bound;
-    }
-    false
+    is_due(start, clock, grace) && version <= bound
 }
 
 // Whether record `j` of a node's bytes goes.
@@ -48,19 +42,10 @@ fn must_go(node: &[u8], j: usize, clock: u64, grace: u64, bound: u64) -> bool
     ensures { result ≡ goes (due_within bound clock grace) (rec_at j node.now) }
 {
     let r = table_read::read_record(table::record_of(node, j));
-    let status = r.status;
-    match status {
+    match r.status {
         Status::Set => false,
-        Status::Delete => may_go(r.start, r.version, clock, grace, bound),
-        Status::Ttl => may_go(r.start, r.version, clock, grace, bound),
+        Status::Delete | Status::Ttl => may_go(r.start, r.version, clock, grace, bound),
     }
-}
-
-// The larger of two numbers.
-fn larger(a: u64, b: u64) -> u64
-    ensures { result ≡ max a b }
-{
-    if a < b { b } else { a }
 }
 
 // Record `j` of a node is one that goes: last_gc becomes the larger of itself and the record's version.
@@ -70,8 +55,7 @@ fn raise_last_gc(node: &mut [u8], j: usize)
 {
     let held = fields::read_u64(node, layout::LAST_GC);
     let version = fields::read_u64(node, table::record_place(j) + layout::VERSION);
-    let last_gc = larger(held, version);
-    table_write::set_last_gc(node, last_gc);
+    table_write::set_last_gc(node, held.max(version));
 }
 
 // Record `j` of a node is one that stays: it comes to place `to`, which is not behind it.
@@ -104,14 +88,12 @@ fn first_due(node: &[u8], clock: u64, grace: u64, bound: u64) -> usize
     ensures { result ≡ first_going (due_within bound clock grace) (recs_in node.now) }
 {
     let n = fields::byte_at(node, layout::RECORD_COUNT);
-    let mut j = 0;
-    while j < n {
+    for j in 0..n {
         if must_go(node, j, clock, grace, bound) {
             return j;
         }
-        j += 1;
     }
-    j
+    n
 }
 
 // All records of a node that are due go, in one pass: from the first of them on, those that stay come down to the next free place. Where none goes,
@@ -121,16 +103,15 @@ fn remove_due_within(node: &mut [u8], clock: u64, grace: u64, bound: u64)
     ensures { node.new ≡ encode_node (removed (due_within bound clock grace) (decode_node node.old)) }
 {
     let n = fields::byte_at(node, layout::RECORD_COUNT);
-    let mut kept = first_due(node, clock, grace, bound);
-    let mut j = kept;
-    while j < n {
+    let first = first_due(node, clock, grace, bound);
+    let mut kept = first;
+    for j in first..n {
         if must_go(node, j, clock, grace, bound) {
             raise_last_gc(node, j);
-        } else {
-            bring_down(node, j, kept);
-            kept += 1;
+            continue;
         }
-        j += 1;
+        bring_down(node, j, kept);
+        kept += 1;
     }
     cut(node, kept);
 }
@@ -140,7 +121,7 @@ pub fn remove_due(node: &mut [u8], clock: u64, grace: u64)
     requires { LaidNode node.old }
     ensures { node.new ≡ encode_node (removed (due clock grace) (decode_node node.old)) }
 {
-    remove_due_within(node, clock, grace, 18446744073709551615);
+    remove_due_within(node, clock, grace, u64::MAX);
 }
 
 // The removal over all nodes of a good table, with a bound for each.
@@ -149,13 +130,10 @@ pub fn remove_within(table: &mut [u8], clock: u64, grace: u64, bounds: [u64; siz
     ensures { table.new ≡ encode (remove_within clock grace bounds (decode table.old)) }
 {
     let n = fields::byte_at(table, layout::NODE_COUNT);
-    let mut i = 0;
-    while i < n {
+    for i in 0..n {
         let a = table::node_place(i);
         let e = a + layout::NODE;
-        let bound = bounds[i];
-        remove_due_within(&mut table[a..e], clock, grace, bound);
-        i += 1;
+        remove_due_within(&mut table[a..e], clock, grace, bounds[i]);
     }
 }
 
@@ -164,17 +142,16 @@ pub fn remove_good(table: &mut [u8], clock: u64, grace: u64)
     requires { valid table.old ≡ true }
     ensures { table.new ≡ encode (remove_all (λ i. due clock grace) (decode table.old)) }
 {
-    remove_within(table, clock, grace, [18446744073709551615u64; sizes::NODES]);
+    remove_within(table, clock, grace, [u64::MAX; sizes::NODES]);
 }
 
 // The removal in lent bytes: 14.
-pub fn remove_scheduled(table: &mut [u8], clock: u64, grace: u64) -> Answer
+pub fn remove_scheduled(table: &mut [u8], clock: u64, grace: u64) -> Result<(), Refusal>
     ensures { Tells answer_told (lent_gc clock grace table.old) result table.new }
 {
-    if table_check::check_table(table) {
-        remove_good(&mut table[..layout::AREA], clock, grace);
-        Answer::Done
-    } else {
-        Answer::Refused(Refusal::BadTable)
+    if !table_check::check_table(table) {
+        return Err(Refusal::BadTable);
     }
+    remove_good(&mut table[..layout::AREA], clock, grace);
+    Ok(())
 }

@@ -19,7 +19,7 @@ use Rattle.rules.specs.Memory.{Memory, Removed, forget, heartbeat_of}
 use Rattle.rules.specs.Whole.{decode_memory, removed_place, removed_widths, tail_width}
 use Rattle.rules.specs.Node.{beats}
 use Rattle.rules.specs.Lent.{remembered_as}
-use Rattle.rules.specs.declared.Remembered.TheVariants as remembered
+use Rattle.std.specs.Prelude.{None, Ok, Some}
 use Rattle.table.specs.Tests.{removed_in}
 use Rattle.table.proofs.Memories.{length-memory, memory-drop, removed-beat, removed-number, removed_at}
 use Rattle.removed.specs.Find.{index_of}
@@ -99,12 +99,12 @@ module _ (b : List ℕ) (long : length b ≡ tail_width) (few : removed_in b ≤
 
 module _ (b : List ℕ) (long : length b ≡ tail_width) (few : removed_in b ≤ max_removed) (k i : ℕ) (e : i ≡ index_of k (decode_memory b)) where
   pub beat-read : (x : ℕ) → i < removed_in b → x ≡ nat_of (part (removed_place i + offset removed_widths 1) 8 b)
-      → remembered.With (beats x) ≡ remembered_as (heartbeat_of k (decode_memory b))
+      → (Ok (Some (beats x))) ≡ remembered_as (heartbeat_of k (decode_memory b))
   beat-read x h q =
       let found : drop (index_of k (decode_memory b)) (decode_memory b) ≡ removed_at i b ∷ drop (suc i) (decode_memory b) =
       ap (λ (n : ℕ). drop n (decode_memory b)) (sym e) ∙ memory-drop i b h in
-      ap (λ (n : ℕ). remembered.With (beats n)) (q ∙ sym (removed-beat i b long (omega arith)))
+      ap (λ (n : ℕ). (Ok (Some (beats n)))) (q ∙ sym (removed-beat i b long (omega arith)))
       ∙ sym (ap remembered_as (beat-at k (decode_memory b) (removed_at i b) (drop (suc i) (decode_memory b)) found))
 
-  pub beat-none : removed_in b ≤ i → remembered.Not ≡ remembered_as (heartbeat_of k (decode_memory b))
+  pub beat-none : removed_in b ≤ i → (Ok None) ≡ remembered_as (heartbeat_of k (decode_memory b))
   beat-none h = sym (ap remembered_as (beat-past k (decode_memory b) (rw (length-memory b, ← e) h)))

@@ -11,7 +11,7 @@ ghost use Rattle.table.specs.Tests.{removed_in};
 ghost use Rattle.table.specs.Fits.{LaidTail};
 ghost use Rattle.removed.specs.Find.{index_of};
 
-use rules::{Heartbeat, Remembered, sizes};
+use rules::{Heartbeat, Refusal, sizes};
 use table::layout;
 
 // Where the node with this number stands among the `n` removed ones; `n` where it is none of them.
@@ -19,18 +19,16 @@ fn find(tail: &[u8], number: u64, n: usize) -> usize
     requires { (length tail.now ≡ tail_width) × (n ≤ max_removed) × (n ≡ removed_in tail.now) }
     ensures { (result ≡ index_of number (decode_memory tail.now)) × (result ≤ n) }
 {
-    let mut i = 0;
-    while i < n {
+    for i in 0..n {
         if number == fields::read_u64(tail, table::removed_place(i) + layout::REMOVED_NUMBER) {
             return i;
         }
-        i += 1;
     }
-    i
+    n
 }
 
 // The last heartbeat of a removed node. The tail is lent for reading: asking cannot change the order.
-pub fn last_heartbeat(tail: &[u8], number: u64) -> Remembered
+pub fn last_heartbeat(tail: &[u8], number: u64) -> Result<Option<Heartbeat>, Refusal>
     requires { (length tail.now ≡ tail_width) × (removed_in tail.now ≤ max_removed) }
     ensures { result ≡ remembered_as (memory.heartbeat_of number (decode_memory tail.now)) }
 {
@@ -38,9 +36,9 @@ pub fn last_heartbeat(tail: &[u8], number: u64) -> Remembered
     let i = find(tail, number, n);
     if i < n {
         let beat = fields::read_u64(tail, table::removed_place(i) + layout::REMOVED_HEARTBEAT);
-        return Remembered::With(Heartbeat(beat));
+        return Ok(Some(Heartbeat(beat)));
     }
-    Remembered::Not
+    Ok(None)
 }
 
 // The node is forgotten, and the others keep their order.

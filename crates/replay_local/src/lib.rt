@@ -1,11 +1,10 @@
-// The calls on one table that no peer has a part in. Where a word is none that the call takes, nothing is written.
+// The calls on one table that no peer has a part in. Where a word is none that the call takes, nothing is written and there is no answer.
 #![tactic(auto)]
 
 use lookup::Found;
 use replay_tell::marks;
-use replay_words::read::{Count, Numeral};
 use replay_words::{print, read, verbs};
-use rules::{Heartbeat, Listed, Party};
+use rules::{Heartbeat, Party, Refusal};
 
 // The longest key or value of a script.
 const TEXT: usize = 256;
@@ -15,35 +14,32 @@ const PLACES: usize = 40;
 
 // ---- calls that take numbers alone
 
-fn two_call(
+pub fn plain_call(
     table: &mut [u8],
-    verb: usize,
-    first: u64,
-    word: &[u8],
+    verb: verbs::Plain,
+    line: &[u8],
     out: &mut [u8],
     at: usize,
-) -> usize {
-    let Numeral::Is(second) = read::number(word) else {
-        return at;
+) -> Option<usize> {
+    let number = read::number(read::word(line, 1))?;
+    let next = match verb {
+        verbs::Plain::Add => replay_tell::answer(out, at, nodes::add_node(table, number)),
+        verbs::Plain::Remove => replay_tell::answer(out, at, nodes::remove_node(table, number)),
+        verbs::Plain::Removed => {
+            replay_tell::remembered(out, at, nodes::last_heartbeat(table, number))
+        }
+        verbs::Plain::Beat => replay_tell::answer(out, at, heartbeat::local_beat(table, number)),
+        verbs::Plain::Offer => {
+            let second = read::number(read::word(line, 2))?;
+            let offered = heartbeat::offer_heartbeat(table, number, Heartbeat(second));
+            replay_tell::offered(out, at, offered)
+        }
+        verbs::Plain::Gc => {
+            let second = read::number(read::word(line, 2))?;
+            replay_tell::answer(out, at, removal::remove_scheduled(table, number, second))
+        }
     };
-    if verb == verbs::OFFER {
-        let offered = heartbeat::offer_heartbeat(table, first, Heartbeat(second));
-        return replay_tell::offered(out, at, offered);
-    }
-    replay_tell::answer(out, at, removal::remove_scheduled(table, first, second))
-}
-
-pub fn plain_call(table: &mut [u8], verb: usize, line: &[u8], out: &mut [u8], at: usize) -> usize {
-    let Numeral::Is(number) = read::number(read::word(line, 1)) else {
-        return at;
-    };
-    match verb {
-        verbs::ADD => replay_tell::answer(out, at, nodes::add_node(table, number)),
-        verbs::REMOVE => replay_tell::answer(out, at, nodes::remove_node(table, number)),
-        verbs::REMOVED => replay_tell::remembered(out, at, nodes::last_heartbeat(table, number)),
-        verbs::BEAT => replay_tell::answer(out, at, heartbeat::local_beat(table, number)),
-        _ => two_call(table, verb, number, read::word(line, 2), out, at),
-    }
+    Some(next)
 }
 
 // ---- calls at a key
@@ -57,7 +53,7 @@ fn look_up(
     at: usize,
 ) -> usize {
     match lookup::find(table, party, number, key) {
-        Found::At { start: _, len: _ } => {
+        Ok(Some(Found { start: _, len: _ })) => {
             replay_tell::named(
                 out,
                 at,
@@ -65,22 +61,22 @@ fn look_up(
                 lookup::lookup(table, party, number, key),
             )
         }
-        Found::Nothing => print::text(out, at, b"none"),
-        Found::Refused(refusal) => replay_tell::refused(out, at, refusal),
+        Ok(None) => print::text(out, at, b"none"),
+        Err(refusal) => replay_tell::refused(out, at, refusal),
     }
 }
 
 // What a listing answered, and whether it left the places behind its hits alone.
-fn tell_hits(listed: Listed, hits: &[u8], out: &mut [u8], at: usize) -> usize {
+fn tell_hits(listed: Result<usize, Refusal>, hits: &[u8], out: &mut [u8], at: usize) -> usize {
     match listed {
-        Listed::Hits(n) => {
+        Ok(n) => {
             if marks::is_marked(read::behind(hits, n)) {
                 let next = print::text(out, at, b"ranks ");
                 return print::list(out, next, read::front(hits, n));
             }
             replay_tell::touched(out, at)
         }
-        Listed::Refused(refusal) => {
+        Err(refusal) => {
             if marks::is_marked(hits) {
                 return replay_tell::refused(out, at, refusal);
             }
@@ -98,14 +94,12 @@ fn list(
     word: &[u8],
     out: &mut [u8],
     at: usize,
-) -> usize {
-    let Numeral::Is(places) = read::number(word) else {
-        return at;
-    };
+) -> Option<usize> {
+    let places = read::number(word)?;
     let mut hits = [marks::MARK; PLACES];
     let lent = read::front_mut(&mut hits, places as usize);
     let listed = prefix::list_prefix(table, party, number, prefix, lent);
-    tell_hits(listed, &hits, out, at)
+    Some(tell_hits(listed, &hits, out, at))
 }
 
 // The write: behind the key come the value, the wanted status as any number, and the time.
@@ -117,17 +111,11 @@ fn write(
     line: &[u8],
     out: &mut [u8],
     at: usize,
-) -> usize {
-    let Numeral::Is(status) = read::number(read::word(line, 4)) else {
-        return at;
-    };
-    let Numeral::Is(clock) = read::number(read::word(line, 5)) else {
-        return at;
-    };
+) -> Option<usize> {
+    let status = read::number(read::word(line, 4))?;
+    let clock = read::number(read::word(line, 5))?;
     let mut value = [0u8; TEXT];
-    let Count::Is(n) = read::bytes(read::word(line, 3), &mut value) else {
-        return at;
-    };
+    let n = read::bytes(read::word(line, 3), &mut value)?;
     let wanted = local::wanted(status);
     let answer = local::write(
         table,
@@ -138,67 +126,48 @@ fn write(
         wanted,
         clock,
     );
-    replay_tell::answer(out, at, answer)
-}
-
-// The deletes.
-fn delete(
-    table: &mut [u8],
-    party: Party,
-    verb: usize,
-    number: u64,
-    key: &[u8],
-    word: &[u8],
-    out: &mut [u8],
-    at: usize,
-) -> usize {
-    let Numeral::Is(clock) = read::number(word) else {
-        return at;
-    };
-    if verb == verbs::DELETE {
-        return replay_tell::answer(out, at, local::delete(table, party, number, key, clock));
-    }
-    replay_tell::answer(
-        out,
-        at,
-        local::delete_after_ttl(table, party, number, key, clock),
-    )
+    Some(replay_tell::answer(out, at, answer))
 }
 
 fn at_key(
     table: &mut [u8],
     party: Party,
-    verb: usize,
+    verb: verbs::Key,
     number: u64,
     key: &[u8],
     line: &[u8],
     out: &mut [u8],
     at: usize,
-) -> usize {
+) -> Option<usize> {
     let word = read::word(line, 3);
     match verb {
-        verbs::GET => look_up(table, party, number, key, out, at),
-        verbs::LIST => list(table, party, number, key, word, out, at),
-        verbs::WRITE => write(table, party, number, key, line, out, at),
-        _ => delete(table, party, verb, number, key, word, out, at),
+        verbs::Key::Get => Some(look_up(table, party, number, key, out, at)),
+        verbs::Key::List => list(table, party, number, key, word, out, at),
+        verbs::Key::Write => write(table, party, number, key, line, out, at),
+        verbs::Key::Delete => {
+            let clock = read::number(word)?;
+            let answer = local::delete(table, party, number, key, clock);
+            Some(replay_tell::answer(out, at, answer))
+        }
+        verbs::Key::DeleteTtl => {
+            let clock = read::number(word)?;
+            let answer = local::delete_after_ttl(table, party, number, key, clock);
+            Some(replay_tell::answer(out, at, answer))
+        }
     }
 }
 
 pub fn key_call(
     table: &mut [u8],
     party: Party,
-    verb: usize,
+    verb: verbs::Key,
     line: &[u8],
     out: &mut [u8],
     at: usize,
-) -> usize {
-    let Numeral::Is(number) = read::number(read::word(line, 1)) else {
-        return at;
-    };
+) -> Option<usize> {
+    let number = read::number(read::word(line, 1))?;
     let mut key = [0u8; TEXT];
-    let Count::Is(n) = read::bytes(read::word(line, 2), &mut key) else {
-        return at;
-    };
+    let n = read::bytes(read::word(line, 2), &mut key)?;
     at_key(
         table,
         party,

@@ -1,11 +1,10 @@
-// The calls on overrides, and the readings over overrides and a table. Where a word is none that the call takes, nothing is written.
+// The calls on overrides, and the readings over overrides and a table. Where a word is none that the call takes, nothing is written and there is no
+// answer.
 #![tactic(auto)]
 
 use over_find::FoundOver;
-use over_list::ListedOver;
-use overrides::Which;
+use overrides::{RefusedOver, Which};
 use replay_tell::marks;
-use replay_words::read::{Count, Numeral};
 use replay_words::{print, read, verbs};
 use rules::{Party, Refusal};
 
@@ -18,84 +17,52 @@ const PLACES: usize = 72;
 // ---- calls that change overrides
 
 // The write: behind the key come the value, the wanted status as any number, and the time.
-fn write(overrides: &mut [u8], key: &[u8], line: &[u8], out: &mut [u8], at: usize) -> usize {
-    let Numeral::Is(status) = read::number(read::word(line, 3)) else {
-        return at;
-    };
-    let Numeral::Is(clock) = read::number(read::word(line, 4)) else {
-        return at;
-    };
-    let mut value = [0u8; TEXT];
-    let Count::Is(n) = read::bytes(read::word(line, 2), &mut value) else {
-        return at;
-    };
-    let wanted = local::wanted(status);
-    let answer = overrides::write_override(overrides, key, read::front(&value, n), wanted, clock);
-    replay_tell::answer(out, at, answer)
-}
-
-// The deletes.
-fn delete(
+fn write(
     overrides: &mut [u8],
-    verb: usize,
     key: &[u8],
-    word: &[u8],
+    line: &[u8],
     out: &mut [u8],
     at: usize,
-) -> usize {
-    let Numeral::Is(clock) = read::number(word) else {
-        return at;
-    };
-    if verb == verbs::UNLABEL {
-        return replay_tell::answer(out, at, overrides::delete_override(overrides, key, clock));
-    }
-    let answer = overrides::delete_override_after_ttl(overrides, key, clock);
-    replay_tell::answer(out, at, answer)
-}
-
-fn at_key(overrides: &mut [u8], verb: usize, line: &[u8], out: &mut [u8], at: usize) -> usize {
-    let mut key = [0u8; TEXT];
-    let Count::Is(n) = read::bytes(read::word(line, 1), &mut key) else {
-        return at;
-    };
-    if verb == verbs::LABEL {
-        return write(overrides, read::front(&key, n), line, out, at);
-    }
-    delete(
-        overrides,
-        verb,
-        read::front(&key, n),
-        read::word(line, 2),
-        out,
-        at,
-    )
-}
-
-fn remove(overrides: &mut [u8], line: &[u8], out: &mut [u8], at: usize) -> usize {
-    let Numeral::Is(clock) = read::number(read::word(line, 1)) else {
-        return at;
-    };
-    let Numeral::Is(grace) = read::number(read::word(line, 2)) else {
-        return at;
-    };
-    replay_tell::answer(
-        out,
-        at,
-        overrides::remove_overrides(overrides, clock, grace),
-    )
+) -> Option<usize> {
+    let status = read::number(read::word(line, 3))?;
+    let clock = read::number(read::word(line, 4))?;
+    let mut value = [0u8; TEXT];
+    let n = read::bytes(read::word(line, 2), &mut value)?;
+    let wanted = local::wanted(status);
+    let answer = overrides::write_override(overrides, key, read::front(&value, n), wanted, clock);
+    Some(replay_tell::answer(out, at, answer))
 }
 
 pub fn label_call(
     overrides: &mut [u8],
-    verb: usize,
+    verb: verbs::Label,
     line: &[u8],
     out: &mut [u8],
     at: usize,
-) -> usize {
-    if verb == verbs::GC_LABELS {
-        return remove(overrides, line, out, at);
+) -> Option<usize> {
+    let mut room = [0u8; TEXT];
+    let n = read::bytes(read::word(line, 1), &mut room)?;
+    let key = read::front(&room, n);
+    match verb {
+        verbs::Label::Write => write(overrides, key, line, out, at),
+        verbs::Label::Delete => {
+            let clock = read::number(read::word(line, 2))?;
+            let answer = overrides::delete_override(overrides, key, clock);
+            Some(replay_tell::answer(out, at, answer))
+        }
+        verbs::Label::DeleteTtl => {
+            let clock = read::number(read::word(line, 2))?;
+            let answer = overrides::delete_override_after_ttl(overrides, key, clock);
+            Some(replay_tell::answer(out, at, answer))
+        }
     }
-    at_key(overrides, verb, line, out, at)
+}
+
+pub fn remove(overrides: &mut [u8], line: &[u8], out: &mut [u8], at: usize) -> Option<usize> {
+    let clock = read::number(read::word(line, 1))?;
+    let grace = read::number(read::word(line, 2))?;
+    let answer = overrides::remove_overrides(overrides, clock, grace);
+    Some(replay_tell::answer(out, at, answer))
 }
 
 // ---- readings over both
@@ -120,34 +87,34 @@ fn look_up<'a>(
     at: usize,
 ) -> usize {
     match over_find::find_over(overrides, table, party, number, key) {
-        FoundOver::InOverrides { start: _, len: _ } => replay_tell::named(
+        Ok(Some(FoundOver::InOverrides { start: _, len: _ })) => replay_tell::named(
             out,
             at,
             b"label ",
             over_find::lookup_over(overrides, table, party, number, key),
         ),
-        FoundOver::InTable { start: _, len: _ } => replay_tell::named(
+        Ok(Some(FoundOver::InTable { start: _, len: _ })) => replay_tell::named(
             out,
             at,
             b"value ",
             over_find::lookup_over(overrides, table, party, number, key),
         ),
-        FoundOver::Nothing => print::text(out, at, b"none"),
-        FoundOver::Refused { which, why } => refused(out, at, which, why),
+        Ok(None) => print::text(out, at, b"none"),
+        Err(RefusedOver { which, why }) => refused(out, at, which, why),
     }
 }
 
 // What a listing answered, and whether it left the places behind its hits alone.
-fn tell_hits(listed: ListedOver, hits: &[u8], out: &mut [u8], at: usize) -> usize {
+fn tell_hits(listed: Result<usize, RefusedOver>, hits: &[u8], out: &mut [u8], at: usize) -> usize {
     match listed {
-        ListedOver::Hits(n) => {
+        Ok(n) => {
             if marks::is_marked(read::behind(hits, n)) {
                 let next = print::text(out, at, b"ranks ");
                 return print::list(out, next, read::front(hits, n));
             }
             replay_tell::touched(out, at)
         }
-        ListedOver::Refused { which, why } => {
+        Err(RefusedOver { which, why }) => {
             if marks::is_marked(hits) {
                 return refused(out, at, which, why);
             }
@@ -166,14 +133,12 @@ fn list(
     word: &[u8],
     out: &mut [u8],
     at: usize,
-) -> usize {
-    let Numeral::Is(places) = read::number(word) else {
-        return at;
-    };
+) -> Option<usize> {
+    let places = read::number(word)?;
     let mut hits = [marks::MARK; PLACES];
     let lent = read::front_mut(&mut hits, places as usize);
     let listed = over_list::list_over(overrides, table, party, number, prefix, lent);
-    tell_hits(listed, &hits, out, at)
+    Some(tell_hits(listed, &hits, out, at))
 }
 
 // Behind the hub that has the overrides come the node and the key or prefix.
@@ -181,37 +146,20 @@ pub fn over_call<'a>(
     overrides: &'a [u8],
     table: &'a [u8],
     party: Party,
-    verb: usize,
+    verb: verbs::Over,
     line: &[u8],
     out: &mut [u8],
     at: usize,
-) -> usize {
-    let Numeral::Is(number) = read::number(read::word(line, 2)) else {
-        return at;
-    };
-    let mut key = [0u8; TEXT];
-    let Count::Is(n) = read::bytes(read::word(line, 3), &mut key) else {
-        return at;
-    };
-    if verb == verbs::GET_OVER {
-        return look_up(
-            overrides,
-            table,
-            party,
-            number,
-            read::front(&key, n),
-            out,
-            at,
-        );
+) -> Option<usize> {
+    let number = read::number(read::word(line, 2))?;
+    let mut room = [0u8; TEXT];
+    let n = read::bytes(read::word(line, 3), &mut room)?;
+    let key = read::front(&room, n);
+    match verb {
+        verbs::Over::Get => Some(look_up(overrides, table, party, number, key, out, at)),
+        verbs::Over::List => {
+            let word = read::word(line, 4);
+            list(overrides, table, party, number, key, word, out, at)
+        }
     }
-    list(
-        overrides,
-        table,
-        party,
-        number,
-        read::front(&key, n),
-        read::word(line, 4),
-        out,
-        at,
-    )
 }

@@ -5,9 +5,9 @@ pub mod checksum;
 pub mod marks;
 
 use digest_read::NodeDigest;
-use plan::Judged;
+use plan::NotSent;
 use replay_words::{print, read};
-use rules::{Answer, Offered, Refusal, Remembered};
+use rules::{Heartbeat, Refusal};
 
 // No other side says this: a call wrote where it may not.
 pub fn touched(out: &mut [u8], at: usize) -> usize {
@@ -38,29 +38,33 @@ pub fn refused_at(out: &mut [u8], at: usize, refusal: Refusal, place: usize) -> 
     lacking(out, next, refusal)
 }
 
-pub fn answer(out: &mut [u8], at: usize, answer: Answer) -> usize {
+pub fn answer(out: &mut [u8], at: usize, answer: Result<(), Refusal>) -> usize {
     match answer {
-        Answer::Done => print::text(out, at, b"done"),
-        Answer::Refused(refusal) => refused(out, at, refusal),
+        Ok(()) => print::text(out, at, b"done"),
+        Err(refusal) => refused(out, at, refusal),
     }
 }
 
-pub fn offered(out: &mut [u8], at: usize, offered: Offered) -> usize {
+pub fn offered(out: &mut [u8], at: usize, offered: Result<bool, Refusal>) -> usize {
     match offered {
-        Offered::Yes => print::text(out, at, b"yes"),
-        Offered::No => print::text(out, at, b"no"),
-        Offered::Refused(refusal) => refused(out, at, refusal),
+        Ok(true) => print::text(out, at, b"yes"),
+        Ok(false) => print::text(out, at, b"no"),
+        Err(refusal) => refused(out, at, refusal),
     }
 }
 
-pub fn remembered(out: &mut [u8], at: usize, remembered: Remembered) -> usize {
+pub fn remembered(
+    out: &mut [u8],
+    at: usize,
+    remembered: Result<Option<Heartbeat>, Refusal>,
+) -> usize {
     match remembered {
-        Remembered::With(heartbeat) => {
+        Ok(Some(heartbeat)) => {
             let next = print::text(out, at, b"heartbeat ");
             print::decimal(out, next, heartbeat.0)
         }
-        Remembered::Not => print::text(out, at, b"none"),
-        Remembered::Refused(refusal) => refused(out, at, refusal),
+        Ok(None) => print::text(out, at, b"none"),
+        Err(refusal) => refused(out, at, refusal),
     }
 }
 
@@ -89,75 +93,73 @@ fn entry(out: &mut [u8], at: usize, node: NodeDigest) -> usize {
     field(out, next, node.max)
 }
 
-// An entry behind a comma; nothing where it is not one of the digest.
-fn further(out: &mut [u8], at: usize, node: NodeDigest, held: bool) -> usize {
-    if held {
-        let next = print::byte(out, at, b',');
-        return entry(out, next, node);
-    }
-    at
-}
-
 // The first `count` entries of a digest, with commas between them; a dash where there is none.
 pub fn entries(out: &mut [u8], at: usize, nodes: [NodeDigest; 8], count: usize) -> usize {
-    if count == 0 {
+    let Some((first, rest)) = read::front(&nodes, count).split_first() else {
         return print::byte(out, at, b'-');
-    }
-    let mut next = entry(out, at, nodes[0]);
-    let mut i = 1;
-    while i < 8 {
-        next = further(out, next, nodes[i], i < count);
-        i += 1;
+    };
+    let mut next = entry(out, at, *first);
+    for node in rest {
+        next = print::byte(out, next, b',');
+        next = entry(out, next, *node);
     }
     next
 }
 
 // Why a line of a plan is at fault, by its code; 0 is no code.
 fn fault(out: &mut [u8], at: usize, code: u64) -> usize {
-    print::text(
-        out,
-        at,
-        read::word(
-            b"none not-held excluded named-before up-to-date too-many too-few no-fit alone",
-            code as usize,
-        ),
-    )
+    let why = match code {
+        0 => b"none".as_slice(),
+        1 => b"not-held",
+        2 => b"excluded",
+        3 => b"named-before",
+        4 => b"up-to-date",
+        5 => b"too-many",
+        6 => b"too-few",
+        7 => b"no-fit",
+        8 => b"alone",
+        _ => b"",
+    };
+    print::text(out, at, why)
 }
 
 // What is said of a plan: where a line is at fault, number 23 with the line and why.
-pub fn judged(out: &mut [u8], at: usize, judged: Judged) -> usize {
+pub fn judged(out: &mut [u8], at: usize, judged: Result<(), NotSent>) -> usize {
     match judged {
-        Judged::Accepted => print::text(out, at, b"accepted"),
-        Judged::AtFault { line, why } => {
+        Ok(()) => print::text(out, at, b"accepted"),
+        Err(NotSent::AtFault { line, why }) => {
             let code = coded(out, at, Refusal::BadPlan);
             let next = numbered(out, code, b" line=", line);
             let behind = print::text(out, next, b" why=");
             fault(out, behind, why.code())
         }
-        Judged::Refused(refusal) => refused(out, at, refusal),
+        Err(NotSent::Refused(refusal)) => refused(out, at, refusal),
     }
 }
 
 // What was answered for one node delta, by its code.
 fn verdict(out: &mut [u8], at: usize, code: u8) -> usize {
-    print::text(
-        out,
-        at,
-        read::word(b"reject apply reset room unknown fenced", code as usize),
-    )
+    let answer = match code {
+        0 => b"reject".as_slice(),
+        1 => b"apply",
+        2 => b"reset",
+        3 => b"room",
+        4 => b"unknown",
+        5 => b"fenced",
+        _ => b"",
+    };
+    print::text(out, at, answer)
 }
 
 // What was answered for each node delta, with commas between them; a dash where there is none.
 pub fn verdicts(out: &mut [u8], at: usize, codes: &[u8]) -> usize {
-    if codes.len() == 0 {
+    let Some((first, rest)) = codes.split_first() else {
         return print::byte(out, at, b'-');
-    }
-    let mut next = verdict(out, at, codes[0]);
-    let mut i = 1;
-    while i < codes.len() {
+    };
+    let mut next = verdict(out, at, *first);
+    for code in rest {
         next = print::byte(out, next, b',');
-        next = verdict(out, next, codes[i]);
-        i += 1;
+        next = verdict(out, next, *code);
     }
     next
 }

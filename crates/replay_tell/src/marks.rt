@@ -6,19 +6,10 @@ pub const MARK: u8 = 238;
 
 // Whether all bytes are as they were marked.
 pub fn is_marked(bytes: &[u8]) -> bool {
-    let mut differ: u8 = 0;
-    let mut i = 0;
-    while i < bytes.len() {
-        differ = differ | (bytes[i] ^ MARK);
-        i += 1;
-    }
-    differ == 0
+    bytes.iter().all(|byte| *byte == MARK)
 }
 
 // Whether the bytes before `start` and those from `end` on are as they were marked.
 pub fn is_left(bytes: &[u8], start: usize, end: usize) -> bool {
-    if is_marked(read::front(bytes, start)) {
-        return is_marked(read::behind(bytes, end));
-    }
-    false
+    is_marked(read::front(bytes, start)) && is_marked(read::behind(bytes, end))
 }

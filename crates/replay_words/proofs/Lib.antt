@@ -1,3 +1,4 @@
 pub mod Said
 pub mod Pieces
+pub mod Numerals
 pub mod Stored

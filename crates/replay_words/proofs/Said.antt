@@ -3,13 +3,12 @@ use Prim.Native.Nat.{ℕ, ◌+◌, ◌/◌, ◌%◌, ◌≤◌, ◌<◌}
 use mathlib.Core.Path.{◌≡◌, refl, ap, sym, ◌∙◌}
 use mathlib.Core.List.{List, [], ◌∷◌}
 use native.Mathlib.Omega.{arith}
-use lib.ListN.{length, set, get_or, drop, drop_of_length-le}
+use lib.ListN.{length, get_or, drop, drop_of_length-le}
 use lib.Seq.{drop-cons}
 use native.Mathlib.Numerals.{add-one}
 use Rattle.rules.specs.Listing.{decimal}
 use borrow.Author.Tests.{le-leb, lt-leb}
 use Rattle.fields.specs.Parts.{put}
-use Rattle.fields.proofs.Parts.{put_one}
 use Rattle.replay_words.specs.Printing.{Page, page, say, says, hex_digit, hex_texts, more_texts, list_texts}
 
 pub said : (at r : ℕ) (t l m : List ℕ) → at + length t ≤ length l → r ≡ at + length t → m ≡ put at t l → page r m ≡ say t (page at l)
@@ -19,12 +18,6 @@ said at r t l m h e p = rw (e, p, le-leb (at + length t) (length l) h)
 pub unsaid : (at : ℕ) (t l : List ℕ) → length l < at + length t → page at l ≡ say t (page at l)
 unfolding say
 unsaid at t l h = rw (lt-leb (at + length t) (length l) h)
-
-pub said-one : (at b : ℕ) (l : List ℕ) → at < length l → page (at + 1) (set l at b) ≡ say (b ∷ []) (page at l)
-said-one at b l h = said at (at + 1) (b ∷ []) l (set l at b) (omega arith) refl (sym (put_one at b l h))
-
-pub unsaid-one : (at b : ℕ) (l : List ℕ) → length l ≤ at → page at l ≡ say (b ∷ []) (page at l)
-unsaid-one at b l h = unsaid at (b ∷ []) l (omega arith)
 
 -- ---- a byte's texts, two of them, in a loop over i
 
@@ -61,7 +54,6 @@ unfolding says list_texts
 list-none [] p q e g = g
 list-none (x ∷ l) p q e g = absurd (omega arith)
 
-pub list-first : (l : List ℕ) (p q : Page) → (length l ≡ 0 → ⊥) → q ≡ say (decimal (get_or l 0 0)) p → says (more_texts (drop 1 l)) q ≡ says (list_texts l) p
+pub list-first : (l : List ℕ) (x : ℕ) (r : List ℕ) (p q : Page) → l ≡ x ∷ r → q ≡ say (decimal x) p → says (more_texts r) q ≡ says (list_texts l) p
 unfolding says list_texts
-list-first [] p q n g = absurd (n refl)
-list-first (x ∷ l) p q n g = ap (says (more_texts l)) g
+list-first l x r p q e g = rw (e, g) refl

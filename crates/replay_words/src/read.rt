@@ -1,297 +1,125 @@
 // Taking a line apart.
-ghost use Rattle.std.specs.Prelude.{◌≡◌, [], ◌+◌, ◌≤◌, ◌<◌, length, get_or, take, drop};
-ghost use Rattle.replay_words.specs.Reading.{pieces, words_of, place_in, with_digit, numeral_of, counted, stored_in};
-
-// The largest number.
-const MOST: u64 = 18446744073709551615;
-
-// A decimal number below 2^64.
-#[derive(Clone, Copy)]
-pub enum Numeral {
-    Is(u64),
-    Not,
-}
-
-// How many bytes or numbers a word gave to the lent list.
-#[derive(Clone, Copy)]
-pub enum Count {
-    Is(usize),
-    Not,
-}
-
-// The place of the first `separator` from `at` on, or the end.
-fn end_of(bytes: &[u8], at: usize, separator: u8) -> usize
-    requires { at ≤ length bytes.now }
-    ensures { (result ≡ at + length (get_or (pieces separator (drop at bytes.now)) 0 [])) × (result ≤ length bytes.now) }
-{
-    let mut i = at;
-    while i < bytes.len() {
-        if bytes[i] == separator {
-            return i;
-        }
-        i += 1;
-    }
-    i
-}
-
-// How many pieces stand between the separators.
-fn pieces_of(bytes: &[u8], separator: u8) -> usize
-    ensures { result ≡ length (pieces separator bytes.now) }
-{
-    let mut n: usize = 1;
-    let mut i = 0;
-    while i < bytes.len() {
-        if bytes[i] == separator {
-            n += 1;
-        }
-        i += 1;
-    }
-    n
-}
-
-// Piece k between the separators; an empty one where there is none.
-fn piece(bytes: &[u8], separator: u8, k: usize) -> &[u8]
-    ensures { result.now ≡ get_or (pieces separator bytes.now) k [] }
-{
-    let mut at: usize = 0;
-    let mut i: usize = 0;
-    while i < k {
-        let end = end_of(bytes, at, separator);
-        if end == bytes.len() {
-            return &bytes[..0];
-        }
-        at = end + 1;
-        i += 1;
-    }
-    let end = end_of(bytes, at, separator);
-    &bytes[at..end]
-}
+ghost use Rattle.std.specs.Prelude.{◌≡◌, [], ◌<◌, length, get_or, take, drop, IfSome};
+ghost use Rattle.replay_words.specs.Reading.{words_of, place_in, numeral_of, counted, stored_in};
 
 // How many words the line has: what stands between single spaces. Two spaces have an empty word between them, and so has an empty line.
 pub fn words_of(line: &[u8]) -> usize
     ensures { result ≡ length (words_of line.now) }
 {
-    pieces_of(line, b' ')
+    line.split(|byte| *byte == b' ').count()
 }
 
 // Word k of the line; an empty one where there is none.
 pub fn word(line: &[u8], k: usize) -> &[u8]
     ensures { result.now ≡ get_or (words_of line.now) k [] }
 {
-    piece(line, b' ', k)
+    line.split(|byte| *byte == b' ').nth(k).unwrap_or(&[])
 }
 
 // Which of the names the word is; as many as there are names where it is none of them.
 pub fn place_of(names: &[u8], wanted: &[u8]) -> usize
     ensures { result ≡ place_in wanted.now (words_of names.now) }
 {
-    let n = words_of(names);
-    let mut k: usize = 0;
-    while k < n {
-        if fields::same(word(names, k), wanted) {
-            return k;
-        }
-        k += 1;
-    }
-    k
+    let place = names
+        .split(|byte| *byte == b' ')
+        .position(|name| name == wanted);
+    place.unwrap_or(words_of(names))
 }
 
-// The first `n` bytes; all of them where there are fewer.
-pub fn front(bytes: &[u8], n: usize) -> &[u8]
-    ensures { result.now ≡ take n bytes.now }
+// The first `n` items; all of them where there are fewer.
+pub fn front<T>(items: &[T], n: usize) -> &[T]
+    ensures { result.now ≡ take n items.now }
 {
-    if bytes.len() < n {
-        return bytes;
-    }
-    &bytes[..n]
+    &items[..n.min(items.len())]
 }
 
 // The first `n` bytes, lent on; all of them where there are fewer.
 pub fn front_mut(bytes: &mut [u8], n: usize) -> &mut [u8]
     ensures { result.now ≡ take n bytes.old }
 {
-    if bytes.len() < n {
-        return bytes;
-    }
-    &mut bytes[..n]
+    let end = n.min(bytes.len());
+    &mut bytes[..end]
 }
 
 // The bytes behind the first `n`; none where there are fewer.
 pub fn behind(bytes: &[u8], n: usize) -> &[u8]
     ensures { result.now ≡ drop n bytes.now }
 {
-    if bytes.len() < n {
-        return &bytes[..0];
-    }
-    &bytes[n..]
+    &bytes[n.min(bytes.len())..]
 }
 
 // The bytes behind the first `n`, lent on; none where there are fewer.
 pub fn behind_mut(bytes: &mut [u8], n: usize) -> &mut [u8]
     ensures { result.now ≡ drop n bytes.old }
 {
-    if bytes.len() < n {
-        return &mut bytes[..0];
-    }
-    &mut bytes[n..]
+    let start = n.min(bytes.len());
+    &mut bytes[start..]
 }
 
-// The first `n` numbers; all of them where there are fewer.
-pub fn front_numbers(numbers: &[u64], n: usize) -> &[u64]
-    ensures { result.now ≡ take n numbers.now }
-{
-    if numbers.len() < n {
-        return numbers;
-    }
-    &numbers[..n]
-}
-
-// A byte as a number.
-fn wide(byte: u8) -> u64
-    ensures { (result ≡ byte) × (result < 256) }
-{
-    byte as u64
-}
-
-// The number with one decimal digit more.
-fn with_digit(value: u64, byte: u8) -> Numeral
-    ensures { result ≡ with_digit value byte }
-{
-    let code = wide(byte);
-    if code < 48 {
-        return Numeral::Not;
-    }
-    if 57 < code {
-        return Numeral::Not;
-    }
-    let low = code - 48;
-    if (MOST - low) / 10 < value {
-        return Numeral::Not;
-    }
-    Numeral::Is(value * 10 + low)
-}
-
-// The number that the word writes in decimal digits.
-pub fn number(word: &[u8]) -> Numeral
+// The number below 2^64 that the word writes in decimal digits. A `+` before them, which `parse` takes, is none.
+pub fn number(word: &[u8]) -> Option<u64>
     ensures { result ≡ numeral_of word.now }
 {
-    if word.len() == 0 {
-        return Numeral::Not;
+    if word.starts_with(b"+") {
+        return None;
     }
-    let mut value: u64 = 0;
-    let mut i = 0;
-    while i < word.len() {
-        match with_digit(value, word[i]) {
-            Numeral::Is(more) => {
-                value = more;
-            }
-            Numeral::Not => return Numeral::Not,
-        }
-        i += 1;
-    }
-    Numeral::Is(value)
+    str::from_utf8(word).ok()?.parse().ok()
 }
 
-// The value of a hexadecimal digit, lower case; 16 where it is none.
-fn digit(byte: u8) -> u64
-    ensures { result ≤ 16 }
+// The value of a hexadecimal digit, lower case.
+fn digit(byte: u8) -> Option<u8>
+    ensures { IfSome result (λ d. d < 16) }
 {
-    let code = wide(byte);
-    if code < 48 {
-        return 16;
+    match byte {
+        b'0'..=b'9' => Some(byte - b'0'),
+        b'a'..=b'f' => Some(byte - b'a' + 10),
+        _ => None,
     }
-    if code < 58 {
-        return code - 48;
-    }
-    if code < 97 {
-        return 16;
-    }
-    if code < 103 {
-        return code - 87;
-    }
-    16
 }
 
-// The byte of two digits; `out` is left where one of them is none.
-fn store(out: &mut [u8], i: usize, high: u64, low: u64) -> bool
-    requires { i < length out.old }
-{
-    if 15 < high {
-        return false;
+// The bytes that the word writes as `x` and two digits each, to the front of the lent ones: how many they are. Where there is no room for them, it counts
+// as none.
+pub fn bytes(word: &[u8], out: &mut [u8]) -> Option<usize> {
+    let digits = word.strip_prefix(b"x")?;
+    let n = digits.len() / 2;
+    if digits.len() % 2 != 0 || out.len() < n {
+        return None;
     }
-    if 15 < low {
-        return false;
+    for (byte, pair) in out.iter_mut().zip(digits.chunks_exact(2)) {
+        *byte = digit(pair[0])? * 16 + digit(pair[1])?;
     }
-    out[i] = (high * 16 + low) as u8;
-    true
+    Some(n)
 }
 
-// The bytes that the word writes as `x` and two digits each, to the front of the lent ones. Where there is no room for them, it counts as none.
-pub fn bytes(word: &[u8], out: &mut [u8]) -> Count {
-    if word.len() == 0 {
-        return Count::Not;
+// The numbers that the word lists with commas, to the front of the lent ones: how many they are. `-` is the empty list.
+pub fn numbers(word: &[u8], out: &mut [u64]) -> Option<usize> {
+    if word == b"-".as_slice() {
+        return Some(0);
     }
-    let n = (word.len() - 1) / 2;
-    if word[0] != b'x' {
-        return Count::Not;
-    }
-    if n * 2 != word.len() - 1 {
-        return Count::Not;
-    }
-    if out.len() < n {
-        return Count::Not;
-    }
-    let mut i: usize = 0;
-    while i < n {
-        if store(out, i, digit(word[1 + 2 * i]), digit(word[2 + 2 * i])) {
-            i += 1;
-        } else {
-            return Count::Not;
-        }
-    }
-    Count::Is(n)
-}
-
-// The numbers that the word lists with commas, to the front of the lent ones; `-` is the empty list.
-pub fn numbers(word: &[u8], out: &mut [u64]) -> Count {
-    if fields::same(word, b"-") {
-        return Count::Is(0);
-    }
-    let mut at: usize = 0;
-    let mut n: usize = 0;
-    while n < out.len() {
-        let end = end_of(word, at, b',');
-        let Numeral::Is(value) = number(&word[at..end]) else {
-            return Count::Not;
-        };
-        out[n] = value;
+    let mut n = 0;
+    for text in word.split(|byte| *byte == b',') {
+        *out.get_mut(n)? = number(text)?;
         n += 1;
-        if end == word.len() {
-            return Count::Is(n);
-        }
-        at = end + 1;
     }
-    Count::Not
+    Some(n)
 }
 
-// All of `src`, to the front of the lent bytes. Where there is no room for them, it counts as none.
-pub fn copy(src: &[u8], out: &mut [u8]) -> Count
+// All of `src`, to the front of the lent bytes: how many they are. Where there is no room for them, it counts as none.
+pub fn copy(src: &[u8], out: &mut [u8]) -> Option<usize>
     ensures { (result ≡ counted src.now out.old) × (out.new ≡ stored_in src.now out.old) }
 {
     if out.len() < src.len() {
-        return Count::Not;
+        return None;
     }
-    fields::copy_to(out, 0, src);
-    Count::Is(src.len())
+    out[..src.len()].copy_from_slice(src);
+    Some(src.len())
 }
 
 // A byte string: written out, or what was last written by `digest` or `compute`.
-pub fn bytes_of(word: &[u8], digest: &[u8], delta: &[u8], given: &mut [u8]) -> Count {
-    if fields::same(word, b"@digest") {
-        return copy(digest, given);
+pub fn bytes_of(word: &[u8], digest: &[u8], delta: &[u8], given: &mut [u8]) -> Option<usize> {
+    match word {
+        b"@digest" => copy(digest, given),
+        b"@delta" => copy(delta, given),
+        _ => bytes(word, given),
     }
-    if fields::same(word, b"@delta") {
-        return copy(delta, given);
-    }
-    bytes(word, given)
 }

@@ -29,8 +29,9 @@ use Rattle.rules.specs.Sizes.{least_mtu, max_delta, max_nodes}
 use Rattle.rules.specs.Table.{Table, among, obeys}
 use Rattle.rules.specs.declared.Refusal.{Refusal}
 use Rattle.rules.specs.declared.Refusal.TheVariants.{BadEdition, BadMtu, BadTies, NoPlace}
-use Rattle.rules.specs.declared.Computed.{Computed}
-use Rattle.rules.specs.declared.Computed.TheVariants as computed
+use Rattle.std.specs.Prelude.{Err, Ok, Result}
+use Rattle.rules.specs.declared.Sent.{Sent}
+use Rattle.rules.proofs.Results.{ok-is}
 
 abbrev reading : List ℕ → ℕ → Reading
 reading ns m = record { seen = ns; running = m }
@@ -254,8 +255,8 @@ module _ (excluded ties : List ℕ) (ds : List NodeDigest) (t : Table) (obeyed :
 -- ---- what computing comes to
 
 -- a refusal, or the delta for what the digest's bytes tell
-pub data Comes (edition : ℕ) (excluded ties : List ℕ) (mtu place : ℕ) (d : List ℕ) (t : Table) (l : List ℕ) : Given Computed (List ℕ) → Type 0 where
-  refuses : (r : Refusal) → Comes edition excluded ties mtu place d t l (given (computed.Refused r) l)
+pub data Comes (edition : ℕ) (excluded ties : List ℕ) (mtu place : ℕ) (d : List ℕ) (t : Table) (l : List ℕ) : Given (Result Sent Refusal) (List ℕ) → Type 0 where
+  refuses : (r : Refusal) → Comes edition excluded ties mtu place d t l (given (Err r) l)
   writes : (ds : List NodeDigest) (rest : List ℕ) → read_digest edition d ≡ Entries ds rest → mtu ≤ max_delta → place + mtu ≤ length l → Comes edition excluded ties mtu place d t l (written (delta_for excluded ties mtu ds t) place l)
 
 module _ (edition : ℕ) (excluded ties : List ℕ) (mtu place : ℕ) (d : List ℕ) (t : Table) (l : List ℕ) where
@@ -263,8 +264,8 @@ module _ (edition : ℕ) (excluded ties : List ℕ) (mtu place : ℕ) (d : List 
   unfolding compute
   comes = known (is_edition edition)
     where
-      no : Refusal → Given Computed (List ℕ)
-      no r = given (computed.Refused r) l
+      no : Refusal → Given (Result Sent Refusal) (List ℕ)
+      no r = given (Err r) l
 
       go : (a b : Bool)
           → leb mtu max_delta ≡ b
@@ -310,16 +311,17 @@ pub record ComputedAs (place ops bytes : ℕ) (l : List ℕ) : Type 0 where
   pub bytes_counted : length (delta_bytes read) ≡ bytes
 
 pub computed-read : (edition : ℕ) (excluded ties : List ℕ) (mtu place : ℕ) (digest : List ℕ) (t : Table) (l : List ℕ) (ops bytes : ℕ) → obeys t ≡ true
-    → (compute edition excluded ties mtu place digest t l).answer ≡ computed.Delta ops bytes
+    → (compute edition excluded ties mtu place digest t l).answer ≡ (Ok (record { ops = ops; bytes = bytes }))
     → ComputedAs place ops bytes (compute edition excluded ties mtu place digest t l).lent
 computed-read edition excluded ties mtu place digest t l ops bytes ob = go _ (comes edition excluded ties mtu place digest t l)
   where
-    go : (o : Given Computed (List ℕ)) → Comes edition excluded ties mtu place digest t l o → o.answer ≡ computed.Delta ops bytes → ComputedAs place ops bytes o.lent
+    go : (o : Given (Result Sent Refusal) (List ℕ)) → Comes edition excluded ties mtu place digest t l o → o.answer ≡ (Ok (record { ops = ops; bytes = bytes })) → ComputedAs place ops bytes o.lent
     go o (refuses r) e = let z : ◌≡◌ {A = ℕ} 0 1 = cc in absurd (omega arith)
     go o (writes ds rest q h g) e =
         let d : List Op = delta_for excluded ties mtu ds t in
-        let c : length d ≡ ops = cc in
-        let b : length (delta_bytes d) ≡ bytes = cc in
+        let s = ok-is _ _ e in
+        let c : length d ≡ ops = ap (λ (x : Sent). x.ops) s in
+        let b : length (delta_bytes d) ≡ bytes = ap (λ (x : Sent). x.bytes) s in
         record {
           read = d;
           accepted =

@@ -27,7 +27,8 @@ use Rattle.rules.specs.Sizes.{max_nodes, numbers, top}
 use Rattle.rules.specs.Table.{Entry, Table, add_node, among, drop_node, node_of, numbers_of, obeys, remove_all, rising, set_node}
 use Rattle.rules.specs.declared.Heartbeat.{Heartbeat}
 use Rattle.rules.specs.declared.Refusal.TheVariants.{Exhausted, NinthNode, NoNode}
-use Rattle.rules.specs.declared.Answer.TheVariants as plain
+use Rattle.std.specs.Prelude.{Err}
+use Rattle.rules.specs.Results.{done}
 
 -- ---- a node of the table
 
@@ -266,7 +267,7 @@ pub add-keeps : (i : ℕ) (t : Table) → i < numbers → obeys t ≡ true → o
 unfolding add
 add-keeps i t h e = go (among i (numbers_of t)) (ltb (length t) max_nodes) refl
   where
-    go : (a b : Bool) → ltb (length t) max_nodes ≡ b → obeys (pick a (gives plain.Done t) (pick b (gives plain.Done (add_node i t)) (gives (plain.Refused NinthNode) t))).table ≡ true
+    go : (a b : Bool) → ltb (length t) max_nodes ≡ b → obeys (pick a (gives done t) (pick b (gives done (add_node i t)) (gives (Err NinthNode) t))).table ≡ true
     go true b q = e
     go false true q = facts-table (add_node i t) (ok_add i t (table-facts t e) h (ltb-true _ _ q))
     go false false q = e
@@ -275,7 +276,7 @@ pub remove-node-keeps : (i : ℕ) (t : Table) → obeys t ≡ true → obeys (re
 unfolding remove_node
 remove-node-keeps i t e = go (among i (numbers_of t))
   where
-    go : (a : Bool) → obeys (pick a (gives plain.Done (drop_node i t)) (gives (plain.Refused NoNode) t)).table ≡ true
+    go : (a : Bool) → obeys (pick a (gives done (drop_node i t)) (gives (Err NoNode) t)).table ≡ true
     go true = facts-table (drop_node i t) (ok-drop i t (table-facts t e))
     go false = e
 
@@ -317,7 +318,7 @@ pub beat-keeps : (i : ℕ) (t : Table) → obeys t ≡ true → obeys (local_bea
 unfolding local_beat
 beat-keeps i t e = go (node_of i t) refl
   where
-    rise : (n : Node) → node_of i t ≡ some n → (b : Bool) → ltb n.heartbeat.0 top ≡ b → obeys (pick b (gives plain.Done (set_node i (with_heartbeat (beats (n.heartbeat.0 + 1)) n) t)) (gives (plain.Refused Exhausted) t)).table ≡ true
+    rise : (n : Node) → node_of i t ≡ some n → (b : Bool) → ltb n.heartbeat.0 top ≡ b → obeys (pick b (gives done (set_node i (with_heartbeat (beats (n.heartbeat.0 + 1)) n) t)) (gives (Err Exhausted) t)).table ≡ true
     rise n q true p =
         let ok = table-facts t e in
         let h : n.heartbeat.0 < top = ltb-true _ _ p in
@@ -360,7 +361,7 @@ numbers-beat i t = go (node_of i t)
         next : Node
         next = with_heartbeat (beats (n.heartbeat.0 + 1)) n
 
-        room : (b : Bool) → numbers_of (pick b (gives plain.Done (set_node i next t)) (gives (plain.Refused Exhausted) t)).table ≡ numbers_of t
+        room : (b : Bool) → numbers_of (pick b (gives done (set_node i next t)) (gives (Err Exhausted) t)).table ≡ numbers_of t
         room true = numbers-set i next t
         room false = refl
 

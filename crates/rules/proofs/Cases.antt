@@ -29,7 +29,8 @@ use Rattle.rules.specs.Digest.{NodeDigest}
 use Rattle.rules.specs.Delta.{Op, size_of, status_byte, NodeDelta, Part, delta_bytes, parts_of, max_of, op_bytes, recs_of, text_bytes}
 use Rattle.rules.specs.Compute.{from_of, delta_for, all_ops, by_version, cut, key_value_ops, ordered, queue, sooner, stale, stale_nodes, told_of, written}
 use Rattle.rules.specs.Apply.{Stream, Taken, apply_each, apply_node, codes, delta_status, fenced_ways, guarded_ways, newer_of, outcome, plain_ways, status_of, take_all, takes}
-use Rattle.rules.specs.declared.Answer.{Answer}
+use Rattle.std.specs.Prelude.{Result}
+use Rattle.rules.specs.declared.Refusal.{Refusal}
 use Rattle.rules.specs.declared.Beat.{Beat}
 use Rattle.rules.specs.declared.Status.{Status}
 use Rattle.rules.specs.declared.Status.TheVariants.{Set, Delete, Ttl}
@@ -163,7 +164,7 @@ streamed xs t =
 -- what is held afterwards.
 abbrev wrote : ℕ → List ℕ → ℕ → List ℕ
 wrote wanted v i =
-    let o : Outcome Answer = write wanted v 9 i (1 ∷ []) (entry 7 1 (live 1 ∷ []) ∷ []) in
+    let o : Outcome (Result (Unit {0}) Refusal) = write wanted v 9 i (1 ∷ []) (entry 7 1 (live 1 ∷ []) ∷ []) in
     (answer_told o.answer).number ∷ all_stamps o.table
 
 -- removed nodes with heartbeat 0
@@ -180,12 +181,12 @@ memory_of (r ∷ m) = r.number ∷ r.heartbeat.0 ∷ memory_of m
 -- afterwards.
 abbrev removing : ℕ → List ℕ → List ℕ
 removing i is =
-    let o : Given Answer Whole = remove_whole i (record { kind = kind Plain Free; memory = plainly is; table = entry 7 1 [] ∷ [] }) in
+    let o : Given (Result (Unit {0}) Refusal) Whole = remove_whole i (record { kind = kind Plain Free; memory = plainly is; table = entry 7 1 [] ∷ [] }) in
     (answer_told o.answer).number ∷ memory_of o.lent.memory
 
 abbrev adding : ℕ → Table → List ℕ → List ℕ
 adding i t is =
-    let o : Given Answer Whole = add_whole i (record { kind = kind Plain Free; memory = plainly is; table = t }) in
+    let o : Given (Result (Unit {0}) Refusal) Whole = add_whole i (record { kind = kind Plain Free; memory = plainly is; table = t }) in
     (answer_told o.answer).number ∷ memory_of o.lent.memory
 
 -- news of three offers to one who holds 0

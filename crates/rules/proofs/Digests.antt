@@ -21,7 +21,6 @@ use Rattle.fields.specs.Numbers.{AreBytes, bytes_of, nat_of}
 use Rattle.fields.specs.Parts.{part}
 use Rattle.rules.proofs.Obeys.{Ascending, OkEntry, OkTable, number_in, table-facts}
 use Rattle.rules.proofs.Ops.{Number}
-use Rattle.rules.proofs.Received.{body}
 use Rattle.rules.specs.Delta.{number_lacks}
 use Rattle.rules.specs.Digest.{Entries, NodeDigest, Refused, count_width, digest_bytes, digest_of, digest_of_node, entry_bytes, entry_of, entry_width, first_entries, gathered, head_width, is_edition, read_count, read_counted, read_digest, read_entries, read_to_end, tell, tell_all}
 use Rattle.rules.specs.Node.{beats}

@@ -17,7 +17,8 @@ use Rattle.rules.specs.Table.{Entry, Table, add_node, among, drop_node, node_of,
 use Rattle.rules.specs.Party.{of_keys, own}
 use Rattle.rules.specs.Profile.{in_form, profile_obeys, recs_fit, recs_formed, recs_obey, table_formed}
 use Rattle.rules.specs.Local.{add, gives, remove_node}
-use Rattle.rules.specs.declared.Answer.TheVariants.{Done, Refused}
+use Rattle.std.specs.Prelude.{Err}
+use Rattle.rules.specs.Results.{done}
 use Rattle.rules.specs.declared.Profile.{Profile}
 use Rattle.rules.specs.declared.Party.TheVariants.{Metering, Building}
 use Rattle.rules.specs.declared.Profile.TheVariants.{Free, Meter, Shared}
@@ -159,7 +160,7 @@ module _ (p : Profile) where
   unfolding add
   add-formed i t h = go (among i (numbers_of t)) (ltb (length t) max_nodes)
     where
-      go : (a b : Bool) → profile_obeys p (pick a (gives Done t) (pick b (gives Done (add_node i t)) (gives (Refused NinthNode) t))).table ≡ true
+      go : (a b : Bool) → profile_obeys p (pick a (gives done t) (pick b (gives done (add_node i t)) (gives (Err NinthNode) t))).table ≡ true
       go true b = h
       go false true = added i t h
       go false false = h
@@ -168,7 +169,7 @@ module _ (p : Profile) where
   unfolding remove_node
   drop-formed i t h = go (among i (numbers_of t))
     where
-      go : (a : Bool) → profile_obeys p (pick a (gives Done (drop_node i t)) (gives (Refused NoNode) t)).table ≡ true
+      go : (a : Bool) → profile_obeys p (pick a (gives done (drop_node i t)) (gives (Err NoNode) t)).table ≡ true
       go true = dropped i t h
       go false = h
 

@@ -1,3 +1,4 @@
+pub mod Results
 pub mod Cases
 pub mod MeterCases
 pub mod SharedCases
@@ -23,3 +24,4 @@ pub mod Numbers
 pub mod Formed
 pub mod Refusing
 pub mod Memories
+pub mod Among

@@ -21,8 +21,8 @@ use Rattle.rules.specs.Profile.{profile_obeys}
 use Rattle.rules.specs.Whole.{Whole, decode_whole, encode_whole, obeys_whole, valid_whole, with_table}
 use Rattle.rules.specs.Lent.{add_whole, forget_on, on_whole, remember_on, remove_whole}
 use Rattle.rules.specs.declared.Heartbeat.{Heartbeat}
-use Rattle.rules.specs.declared.Answer.{Answer}
-use Rattle.rules.specs.declared.Answer.TheVariants as plain
+use Rattle.std.specs.Prelude.{Err, Result}
+use Rattle.rules.specs.Results.{done}
 use Rattle.rules.specs.declared.Refusal.{Refusal}
 use Rattle.rules.specs.declared.Refusal.TheVariants.{NinthNode, NoNode}
 use Rattle.rules.proofs.Obeys.{Ascending, among_in, among-not, in-among, not-among, number_in, table-facts}
@@ -302,8 +302,8 @@ module _ (w : Whole) (o : obeys_whole w ≡ true) where
       t : Table
       t = w.table
 
-      out : Bool → Bool → Outcome Answer
-      out a b = pick a (gives plain.Done t) (pick b (gives plain.Done (add_node i t)) (gives (plain.Refused NinthNode) t))
+      out : Bool → Bool → Outcome (Result (Unit {0}) Refusal)
+      out a b = pick a (gives done t) (pick b (gives done (add_node i t)) (gives (Err NinthNode) t))
 
       new : (x : ℕ) → (e : Entry) × (e ∈ add_node i t) × (x ≡ e.number) → (x ≡ i) ⊎ (x ∈ numbers_of t)
       new x y = at (add-from i t y.1)
@@ -321,10 +321,10 @@ module _ (w : Whole) (o : obeys_whole w ≡ true) where
   pub held_stays : (i : ℕ) → among i (numbers_of w.table) ≡ true → (add_whole i w).lent ≡ w
   unfolding add_whole add
   held_stays i h =
-      ap (λ (a : Bool). put (pick a (gives plain.Done w.table) (pick (ltb (length w.table) max_nodes) (gives plain.Done (add_node i w.table)) (gives (plain.Refused NinthNode) w.table)))) h
+      ap (λ (a : Bool). put (pick a (gives done w.table) (pick (ltb (length w.table) max_nodes) (gives done (add_node i w.table)) (gives (Err NinthNode) w.table)))) h
       ∙ ap (λ (m : Memory). record { kind = w.kind; memory = m; table = w.table }) (forget-none i w.memory (whole-memory.none-held i (among_in i (numbers_of w.table) h)))
     where
-      put : Outcome Answer → Whole
+      put : Outcome (Result (Unit {0}) Refusal) → Whole
       put x = record { kind = w.kind; memory = forget_on x.answer i w.memory; table = x.table }
 
   pub remove-keeps-whole : (i : ℕ) → obeys_whole (remove_whole i w).lent ≡ true
@@ -344,14 +344,14 @@ module _ (w : Whole) (o : obeys_whole w ≡ true) where
       less : (x : ℕ) → x ∈ numbers_of (remove_node i t).table → x ∈ numbers_of t
       less x m = at (among i (numbers_of t)) m
         where
-          at : (a : Bool) → x ∈ numbers_of (pick a (gives plain.Done (drop_node i t)) (gives (plain.Refused NoNode) t)).table → x ∈ numbers_of t
+          at : (a : Bool) → x ∈ numbers_of (pick a (gives done (drop_node i t)) (gives (Err NoNode) t)).table → x ∈ numbers_of t
           at true m = fewer x (number-from (drop_node i t) m)
           at false m = m
 
       goes : i ∈ numbers_of t → i ∈ numbers_of (remove_node i t).table → ⊥
       goes h m =
           dropped i t (table-facts t whole-table).ascending
-          (subst (λ (a : Bool). i ∈ numbers_of (pick a (gives plain.Done (drop_node i t)) (gives (plain.Refused NoNode) t)).table) (in-among h) m)
+          (subst (λ (a : Bool). i ∈ numbers_of (pick a (gives done (drop_node i t)) (gives (Err NoNode) t)).table) (in-among h) m)
 
       go : (x : Option Node) → node_of i t ≡ x → OkMemory (numbers_of (remove_node i t).table) (remember_on x i w.memory)
       go none q =
@@ -368,22 +368,22 @@ module _ (w : Whole) (o : obeys_whole w ≡ true) where
 
 -- ---- a refused call leaves all of it
 
-pub add-whole-refused : (i : ℕ) (w : Whole) (r : Refusal) → (add_whole i w).answer ≡ plain.Refused r → (add_whole i w).lent ≡ w
+pub add-whole-refused : (i : ℕ) (w : Whole) (r : Refusal) → (add_whole i w).answer ≡ Err r → (add_whole i w).lent ≡ w
 unfolding add_whole
 add-whole-refused i w r e =
-    ap₂ (λ (a : Answer) (t : Table). record { kind = w.kind; memory = forget_on a i w.memory; table = t }) e (add-refused i w.table r e)
+    ap₂ (λ (a : (Result (Unit {0}) Refusal)) (t : Table). record { kind = w.kind; memory = forget_on a i w.memory; table = t }) e (add-refused i w.table r e)
 
-pub remove-whole-refused : (i : ℕ) (w : Whole) (r : Refusal) → (remove_whole i w).answer ≡ plain.Refused r → (remove_whole i w).lent ≡ w
+pub remove-whole-refused : (i : ℕ) (w : Whole) (r : Refusal) → (remove_whole i w).answer ≡ Err r → (remove_whole i w).lent ≡ w
 unfolding remove_whole remove_node
 remove-whole-refused i w r e =
     ap₂ (λ (x : Option Node) (t : Table). record { kind = w.kind; memory = remember_on x i w.memory; table = t })
     (not_found i w.table (absent (among i (numbers_of w.table)) refl e)) (remove-node-refused i w.table r e)
   where
-    absent : (a : Bool) → among i (numbers_of w.table) ≡ a → (remove_node i w.table).answer ≡ plain.Refused r → among i (numbers_of w.table) ≡ false
+    absent : (a : Bool) → among i (numbers_of w.table) ≡ a → (remove_node i w.table).answer ≡ Err r → among i (numbers_of w.table) ≡ false
     absent false q e = q
     absent true q e =
-        let d : plain.Done ≡ plain.Refused r =
-        sym (ap (λ (b : Bool). (pick b (gives plain.Done (drop_node i w.table)) (gives (plain.Refused NoNode) w.table)).answer) q) ∙ e in
+        let d : done ≡ Err r =
+        sym (ap (λ (b : Bool). (pick b (gives done (drop_node i w.table)) (gives (Err NoNode) w.table)).answer) q) ∙ e in
         let z : ◌≡◌ {A = ℕ} 0 1 = cc in absurd (omega arith)
 
 -- and so do the bytes

@@ -8,11 +8,10 @@ use native.Mathlib.Omega.{arith}
 use lib.Dec.{eqb, eqb-suc-suc, eqb-zero-suc, leb}
 use lib.ListN.{length, length-append, take}
 use Rattle.fields.proofs.Numbers.{length-bytes_of}
-use Rattle.fields.specs.Choice.{all, pick}
+use Rattle.fields.specs.Choice.{pick}
 use Rattle.rules.proofs.Stale.{top_of}
 use Rattle.rules.specs.Compute.{StaleNode, all_ops, body_ops, cut, from_for, from_of, key_value_ops, stale, stale_of}
-use Rattle.rules.specs.Delta.{KeyValueOp, NodeDelta, NodeOp, Op, Part, SetMaxVersionOp, beside_texts, max_of, max_op_width, node_op_width, number, op_bytes, parts_of, recs_of, size_of, text_bytes}
-use Rattle.rules.specs.Local.{gc}
+use Rattle.rules.specs.Delta.{KeyValueOp, NodeDelta, NodeOp, Op, Part, SetMaxVersionOp, beside_texts, max_of, max_op_width, node_op_width, op_bytes, parts_of, recs_of, size_of, text_bytes}
 use Rattle.rules.specs.Node.{KeyValue, Node}
 
 -- the max that comes over: that of the records sent, or own max where there are none to send and a SetMaxVersion fits

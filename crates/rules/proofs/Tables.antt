@@ -21,7 +21,7 @@ use Rattle.rules.specs.Digest.{NodeDigest}
 use Rattle.rules.specs.Node.{Node, Rec, due, remove}
 use Rattle.rules.specs.Table.{Entry, Table, among, node_of, numbers_of, remove_all, set_node}
 use Rattle.rules.specs.declared.Refusal.TheVariants.{NoPlace}
-use Rattle.rules.specs.declared.Applied.TheVariants as applied
+use Rattle.std.specs.Prelude.{Err, Ok}
 
 -- ---- a node of a table
 
@@ -214,7 +214,7 @@ pub applied-table : (ways : Ways) (b : List ℕ) (now : ℕ) (t : Table) (l : Li
 unfolding apply
 applied-table ways b now t l P stay took = go (ways.reads b) refl
   where
-    room : (xs : List Part) → P (apply_each (apply_node ways now) xs t).table → (c : Bool) → P (pick {X = ApplyOutcome} c (record { answer = applied.Nodes (length xs); table = (apply_each (apply_node ways now) xs t).table; list = put 0 (codes (apply_each (apply_node ways now) xs t).answers) l }) (record { answer = applied.Refused NoPlace 0; table = t; list = l })).table
+    room : (xs : List Part) → P (apply_each (apply_node ways now) xs t).table → (c : Bool) → P (pick {X = ApplyOutcome} c (record { answer = Ok (length xs); table = (apply_each (apply_node ways now) xs t).table; list = put 0 (codes (apply_each (apply_node ways now) xs t).answers) l }) (record { answer = (Err (record { why = NoPlace; at = 0 })); table = t; list = l })).table
     room xs x true = x
     room xs x false = stay
 

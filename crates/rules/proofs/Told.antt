@@ -12,23 +12,11 @@ use Rattle.rules.specs.declared.Refusal.{Refusal}
 use Rattle.rules.specs.declared.Refusal.TheVariants.{TooLong, NoNode, NoKey, NinthNode, NodeFull, Exhausted, BadMtu, NoPlace, Cut, BadTag, OutOfOrder, NodeTwice, TooMany, BadTable, BadTies, BadForm, SmallerTotal, OtherParty, BadEdition, BadPeer, NobodyPresent, BadPlan}
 use Rattle.rules.specs.declared.NodeAnswer.{NodeAnswer}
 use Rattle.rules.specs.declared.NodeAnswer.TheVariants as node
-use Rattle.rules.specs.declared.Answer.{Answer}
-use Rattle.rules.specs.declared.Answer.TheVariants as plain
-use Rattle.rules.specs.declared.Offered.{Offered}
-use Rattle.rules.specs.declared.Offered.TheVariants as offered
-use Rattle.rules.specs.declared.Heartbeat.{Heartbeat}
-use Rattle.rules.specs.declared.Remembered.{Remembered}
-use Rattle.rules.specs.declared.Remembered.TheVariants as remembered
-use Rattle.rules.specs.declared.Listed.{Listed}
-use Rattle.rules.specs.declared.Listed.TheVariants as listed
-use Rattle.rules.specs.declared.Written.{Written}
-use Rattle.rules.specs.declared.Written.TheVariants as written
-use Rattle.rules.specs.declared.Computed.{Computed}
-use Rattle.rules.specs.declared.Computed.TheVariants as computed
+use Rattle.std.specs.Prelude.{Bool, Err, None, Ok, Option, Result, Some, false, true}
+use Rattle.rules.specs.declared.DeltaFault.{DeltaFault}
 use Rattle.rules.specs.declared.DeltaRead.{DeltaRead}
-use Rattle.rules.specs.declared.DeltaRead.TheVariants as read
-use Rattle.rules.specs.declared.Applied.{Applied}
-use Rattle.rules.specs.declared.Applied.TheVariants as applied
+use Rattle.rules.specs.declared.Sent.{Sent}
+use Rattle.rules.specs.declared.Heartbeat.{Heartbeat}
 
 -- ---- refusals and nodes' answers
 
@@ -143,72 +131,72 @@ module _ {a b : Told} (e : a ≡ b) where
 pub not-refused : {X : Type 0} (r : Refusal) → 0 ≡ number_of r → X
 not-refused r e = absurd (omega (arith, positive r))
 
-pub same_answer : (a b : Answer) → answer_told a ≡ answer_told b → a ≡ b
+pub same_answer : (a b : (Result (Unit {0}) Refusal)) → answer_told a ≡ answer_told b → a ≡ b
 unfolding answer_told
-same_answer plain.Done plain.Done e = refl
-same_answer plain.Done (plain.Refused r) e = not-refused r (number_is e)
-same_answer (plain.Refused r) plain.Done e = not-refused r (sym (number_is e))
-same_answer (plain.Refused r) (plain.Refused s) e = ap plain.Refused (same-refusal r s (number_is e) (need-is e))
+same_answer (Ok _) (Ok _) e = refl
+same_answer (Ok _) (Err r) e = not-refused r (number_is e)
+same_answer (Err r) (Ok _) e = not-refused r (sym (number_is e))
+same_answer (Err r) (Err s) e = ap Err (same-refusal r s (number_is e) (need-is e))
 
-pub same-offered : (a b : Offered) → offered_told a ≡ offered_told b → a ≡ b
+pub same-offered : (a b : (Result Bool Refusal)) → offered_told a ≡ offered_told b → a ≡ b
 unfolding offered_told
-same-offered offered.Yes offered.Yes e = refl
-same-offered offered.Yes offered.No e = absurd (omega (arith, value-is e 0))
-same-offered offered.No offered.Yes e = absurd (omega (arith, value-is e 0))
-same-offered offered.No offered.No e = refl
-same-offered offered.Yes (offered.Refused r) e = not-refused r (number_is e)
-same-offered offered.No (offered.Refused r) e = not-refused r (number_is e)
-same-offered (offered.Refused r) offered.Yes e = not-refused r (sym (number_is e))
-same-offered (offered.Refused r) offered.No e = not-refused r (sym (number_is e))
-same-offered (offered.Refused r) (offered.Refused s) e = ap offered.Refused (same-refusal r s (number_is e) (need-is e))
+same-offered (Ok true) (Ok true) e = refl
+same-offered (Ok true) (Ok false) e = absurd (omega (arith, value-is e 0))
+same-offered (Ok false) (Ok true) e = absurd (omega (arith, value-is e 0))
+same-offered (Ok false) (Ok false) e = refl
+same-offered (Ok true) (Err r) e = not-refused r (number_is e)
+same-offered (Ok false) (Err r) e = not-refused r (number_is e)
+same-offered (Err r) (Ok true) e = not-refused r (sym (number_is e))
+same-offered (Err r) (Ok false) e = not-refused r (sym (number_is e))
+same-offered (Err r) (Err s) e = ap Err (same-refusal r s (number_is e) (need-is e))
 
 -- a heartbeat is its number
 beat-is : (h k : Heartbeat) → h.0 ≡ k.0 → h ≡ k
 beat-is h k e = ap beats e
 
-pub same-remembered : (a b : Remembered) → remembered_told a ≡ remembered_told b → a ≡ b
+pub same-remembered : (a b : (Result (Option Heartbeat) Refusal)) → remembered_told a ≡ remembered_told b → a ≡ b
 unfolding remembered_told
-same-remembered (remembered.With h) (remembered.With k) e = ap remembered.With (beat-is h k (value-is e 0))
-same-remembered (remembered.With h) remembered.Not e = absurd (omega (arith, values-long e))
-same-remembered (remembered.With h) (remembered.Refused r) e = not-refused r (number_is e)
-same-remembered remembered.Not (remembered.With h) e = absurd (omega (arith, values-long e))
-same-remembered remembered.Not remembered.Not e = refl
-same-remembered remembered.Not (remembered.Refused r) e = not-refused r (number_is e)
-same-remembered (remembered.Refused r) (remembered.With h) e = not-refused r (sym (number_is e))
-same-remembered (remembered.Refused r) remembered.Not e = not-refused r (sym (number_is e))
-same-remembered (remembered.Refused r) (remembered.Refused s) e = ap remembered.Refused (same-refusal r s (number_is e) (need-is e))
+same-remembered (Ok (Some h)) (Ok (Some k)) e = ap (λ a. Ok (Some a)) (beat-is h k (value-is e 0))
+same-remembered (Ok (Some h)) (Ok None) e = absurd (omega (arith, values-long e))
+same-remembered (Ok (Some h)) (Err r) e = not-refused r (number_is e)
+same-remembered (Ok None) (Ok (Some h)) e = absurd (omega (arith, values-long e))
+same-remembered (Ok None) (Ok None) e = refl
+same-remembered (Ok None) (Err r) e = not-refused r (number_is e)
+same-remembered (Err r) (Ok (Some h)) e = not-refused r (sym (number_is e))
+same-remembered (Err r) (Ok None) e = not-refused r (sym (number_is e))
+same-remembered (Err r) (Err s) e = ap Err (same-refusal r s (number_is e) (need-is e))
 
-pub same-listed : (a b : Listed) → listed_told a ≡ listed_told b → a ≡ b
+pub same-listed : (a b : (Result ℕ Refusal)) → listed_told a ≡ listed_told b → a ≡ b
 unfolding listed_told
-same-listed (listed.Hits n) (listed.Hits m) e = ap listed.Hits (value-is e 0)
-same-listed (listed.Hits n) (listed.Refused r) e = not-refused r (number_is e)
-same-listed (listed.Refused r) (listed.Hits n) e = not-refused r (sym (number_is e))
-same-listed (listed.Refused r) (listed.Refused s) e = ap listed.Refused (same-refusal r s (number_is e) (need-is e))
+same-listed (Ok n) (Ok m) e = ap Ok (value-is e 0)
+same-listed (Ok n) (Err r) e = not-refused r (number_is e)
+same-listed (Err r) (Ok n) e = not-refused r (sym (number_is e))
+same-listed (Err r) (Err s) e = ap Err (same-refusal r s (number_is e) (need-is e))
 
-pub same-written : (a b : Written) → written_told a ≡ written_told b → a ≡ b
+pub same-written : (a b : (Result ℕ Refusal)) → written_told a ≡ written_told b → a ≡ b
 unfolding written_told
-same-written (written.Bytes n) (written.Bytes m) e = ap written.Bytes (value-is e 0)
-same-written (written.Bytes n) (written.Refused r) e = not-refused r (number_is e)
-same-written (written.Refused r) (written.Bytes n) e = not-refused r (sym (number_is e))
-same-written (written.Refused r) (written.Refused s) e = ap written.Refused (same-refusal r s (number_is e) (need-is e))
+same-written (Ok n) (Ok m) e = ap Ok (value-is e 0)
+same-written (Ok n) (Err r) e = not-refused r (number_is e)
+same-written (Err r) (Ok n) e = not-refused r (sym (number_is e))
+same-written (Err r) (Err s) e = ap Err (same-refusal r s (number_is e) (need-is e))
 
-pub same-computed : (a b : Computed) → computed_told a ≡ computed_told b → a ≡ b
+pub same-computed : (a b : (Result Sent Refusal)) → computed_told a ≡ computed_told b → a ≡ b
 unfolding computed_told
-same-computed (computed.Delta n k) (computed.Delta m l) e = ap₂ computed.Delta (value-is e 0) (value-is e 1)
-same-computed (computed.Delta n k) (computed.Refused r) e = not-refused r (number_is e)
-same-computed (computed.Refused r) (computed.Delta n k) e = not-refused r (sym (number_is e))
-same-computed (computed.Refused r) (computed.Refused s) e = ap computed.Refused (same-refusal r s (number_is e) (need-is e))
+same-computed (Ok s) (Ok ss) e = ap₂ (λ a b. Ok (record { ops = a; bytes = b })) (value-is e 0) (value-is e 1)
+same-computed (Ok s) (Err r) e = not-refused r (number_is e)
+same-computed (Err r) (Ok s) e = not-refused r (sym (number_is e))
+same-computed (Err r) (Err s) e = ap Err (same-refusal r s (number_is e) (need-is e))
 
-pub same_read : (a b : DeltaRead) → read_told a ≡ read_told b → a ≡ b
+pub same_read : (a b : (Result DeltaRead DeltaFault)) → read_told a ≡ read_told b → a ≡ b
 unfolding read_told
-same_read (read.Good n k) (read.Good m l) e = ap₂ read.Good (value-is e 0) (value-is e 1)
-same_read (read.Good n k) (read.Refused r at) e = not-refused r (number_is e)
-same_read (read.Refused r at) (read.Good n k) e = not-refused r (sym (number_is e))
-same_read (read.Refused r at) (read.Refused s to) e = ap₂ read.Refused (same-refusal r s (number_is e) (need-is e)) (value-is e 0)
+same_read (Ok d) (Ok dd) e = ap₂ (λ a b. Ok (record { ops = a; nodes = b })) (value-is e 0) (value-is e 1)
+same_read (Ok d) (Err f) e = not-refused f.why (number_is e)
+same_read (Err f) (Ok d) e = not-refused f.why (sym (number_is e))
+same_read (Err f) (Err ff) e = ap₂ (λ a b. Err (record { why = a; at = b })) (same-refusal f.why ff.why (number_is e) (need-is e)) (value-is e 0)
 
-pub same-applied : (a b : Applied) → applied_told a ≡ applied_told b → a ≡ b
+pub same-applied : (a b : (Result ℕ DeltaFault)) → applied_told a ≡ applied_told b → a ≡ b
 unfolding applied_told
-same-applied (applied.Nodes n) (applied.Nodes m) e = ap applied.Nodes (value-is e 0)
-same-applied (applied.Nodes n) (applied.Refused r at) e = not-refused r (number_is e)
-same-applied (applied.Refused r at) (applied.Nodes n) e = not-refused r (sym (number_is e))
-same-applied (applied.Refused r at) (applied.Refused s to) e = ap₂ applied.Refused (same-refusal r s (number_is e) (need-is e)) (value-is e 0)
+same-applied (Ok n) (Ok m) e = ap Ok (value-is e 0)
+same-applied (Ok n) (Err f) e = not-refused f.why (number_is e)
+same-applied (Err f) (Ok n) e = not-refused f.why (sym (number_is e))
+same-applied (Err f) (Err ff) e = ap₂ (λ a b. Err (record { why = a; at = b })) (same-refusal f.why ff.why (number_is e) (need-is e)) (value-is e 0)

@@ -19,8 +19,7 @@ use Rattle.rules.specs.Whole.{decode_whole}
 use Rattle.rules.specs.Lent.{on_table, lent_call, lent_write}
 use Rattle.rules.specs.Delta.{status_byte}
 use Rattle.rules.specs.declared.Status.TheVariants.{Set, Ttl}
-use Rattle.rules.specs.declared.Answer.{Answer}
-use Rattle.rules.specs.declared.Answer.TheVariants.{Refused}
+use Rattle.std.specs.Prelude.{Err, Result}
 use Rattle.rules.specs.declared.Party.{Party}
 use Rattle.rules.specs.declared.Profile.{Profile}
 use Rattle.rules.specs.declared.Profile.TheVariants.{Free, Meter, Shared}
@@ -36,7 +35,7 @@ module _ (v : List ℕ) (now i : ℕ) (k : List ℕ) where
   unfolding write
   write-ttl t = refl
 
-  pub write-other : (wanted : ℕ) (t : Table) → (wanted ≡ status_byte Set → ⊥) → (wanted ≡ status_byte Ttl → ⊥) → write wanted v now i k t ≡ gives (Refused BadTag) t
+  pub write-other : (wanted : ℕ) (t : Table) → (wanted ≡ status_byte Set → ⊥) → (wanted ≡ status_byte Ttl → ⊥) → write wanted v now i k t ≡ gives (Err BadTag) t
   unfolding write
   write-other wanted t a b = go (eqb wanted (status_byte Set)) refl (eqb wanted (status_byte Ttl)) refl
     where
@@ -44,7 +43,7 @@ module _ (v : List ℕ) (now i : ℕ) (k : List ℕ) where
           → eqb wanted (status_byte Set) ≡ x
           → (y : Bool)
           → eqb wanted (status_byte Ttl) ≡ y
-          → pick x (call (Setting v) i k t) (pick y (call (SettingTtl v now) i k t) (gives (Refused BadTag) t)) ≡ gives (Refused BadTag) t
+          → pick x (call (Setting v) i k t) (pick y (call (SettingTtl v now) i k t) (gives (Err BadTag) t)) ≡ gives (Err BadTag) t
       go true p y q = absurd (a (eqb-true _ _ p))
       go false p true q = absurd (b (eqb-true _ _ q))
       go false p false q = refl
@@ -58,7 +57,7 @@ module _ (v : List ℕ) (now i : ℕ) (k : List ℕ) where
   unfolding write_as
   ttl-as p q t = refl
 
-  pub other-as : (p : Profile) (q : Party) (wanted : ℕ) (t : Table) → (wanted ≡ status_byte Set → ⊥) → (wanted ≡ status_byte Ttl → ⊥) → write_as p q wanted v now i k t ≡ gives (Refused BadTag) t
+  pub other-as : (p : Profile) (q : Party) (wanted : ℕ) (t : Table) → (wanted ≡ status_byte Set → ⊥) → (wanted ≡ status_byte Ttl → ⊥) → write_as p q wanted v now i k t ≡ gives (Err BadTag) t
   unfolding write_as
   other-as p q wanted t a b = go (eqb wanted (status_byte Set)) refl (eqb wanted (status_byte Ttl)) refl
     where
@@ -66,27 +65,27 @@ module _ (v : List ℕ) (now i : ℕ) (k : List ℕ) where
           → eqb wanted (status_byte Set) ≡ x
           → (y : Bool)
           → eqb wanted (status_byte Ttl) ≡ y
-          → pick x (call_as p q (Setting v) i k t) (pick y (call_as p q (SettingTtl v now) i k t) (gives (Refused BadTag) t)) ≡ gives (Refused BadTag) t
+          → pick x (call_as p q (Setting v) i k t) (pick y (call_as p q (SettingTtl v now) i k t) (gives (Err BadTag) t)) ≡ gives (Err BadTag) t
       go true p y q = absurd (a (eqb-true _ _ p))
       go false p true q = absurd (b (eqb-true _ _ q))
       go false p false q = refl
 
   pub lent-set : (q : Party) (l : List ℕ) → lent_write q (status_byte Set) v now i k l ≡ lent_call q (Setting v) i k l
-  lent-set q l = λ j. on_table (Refused BadTable) (λ t. set-as (decode_whole l).kind.profile q t j) l
+  lent-set q l = λ j. on_table (Err BadTable) (λ t. set-as (decode_whole l).kind.profile q t j) l
 
   pub lent-ttl : (q : Party) (l : List ℕ) → lent_write q (status_byte Ttl) v now i k l ≡ lent_call q (SettingTtl v now) i k l
-  lent-ttl q l = λ j. on_table (Refused BadTable) (λ t. ttl-as (decode_whole l).kind.profile q t j) l
+  lent-ttl q l = λ j. on_table (Err BadTable) (λ t. ttl-as (decode_whole l).kind.profile q t j) l
 
 -- what holds of the two calls and of the refusal holds of the write
-pub write-is : (wanted : ℕ) (v : List ℕ) (now i : ℕ) (k : List ℕ) (t : Table) (P : Outcome Answer → Type 0)
+pub write-is : (wanted : ℕ) (v : List ℕ) (now i : ℕ) (k : List ℕ) (t : Table) (P : Outcome (Result (Unit {0}) Refusal) → Type 0)
     → P (call (Setting v) i k t)
     → P (call (SettingTtl v now) i k t)
-    → P (gives (Refused BadTag) t)
+    → P (gives (Err BadTag) t)
     → P (write wanted v now i k t)
 unfolding write
 write-is wanted v now i k t P a b c = go (eqb wanted (status_byte Set)) (eqb wanted (status_byte Ttl))
   where
-    go : (x y : Bool) → P (pick x (call (Setting v) i k t) (pick y (call (SettingTtl v now) i k t) (gives (Refused BadTag) t)))
+    go : (x y : Bool) → P (pick x (call (Setting v) i k t) (pick y (call (SettingTtl v now) i k t) (gives (Err BadTag) t)))
     go true y = a
     go false true = b
     go false false = c
@@ -129,22 +128,22 @@ guard-is Shared q c k (some n) P a b = at (sizes_fit c k) (own q k) (brings c k)
     at false y g o = a
 
 -- what holds of document 01's call and of these refusals holds of the call in a profile
-pub call-as : (p : Profile) (q : Party) (c : Call) (i : ℕ) (k : List ℕ) (t : Table) (P : Outcome Answer → Type 0)
+pub call-as : (p : Profile) (q : Party) (c : Call) (i : ℕ) (k : List ℕ) (t : Table) (P : Outcome (Result (Unit {0}) Refusal) → Type 0)
     → P (call c i k t)
-    → ((r : Refusal) → ByProfile r → P (gives (Refused r) t))
+    → ((r : Refusal) → ByProfile r → P (gives (Err r) t))
     → P (call_as p q c i k t)
 unfolding call_as
 call-as p q c i k t P a b = guard-is p q c k (node_of i t) (λ g. P (unless_guarded g (call c i k t) t)) a b
 
-pub write_as_lem : (p : Profile) (q : Party) (wanted : ℕ) (v : List ℕ) (now i : ℕ) (k : List ℕ) (t : Table) (P : Outcome Answer → Type 0)
+pub write_as_lem : (p : Profile) (q : Party) (wanted : ℕ) (v : List ℕ) (now i : ℕ) (k : List ℕ) (t : Table) (P : Outcome (Result (Unit {0}) Refusal) → Type 0)
     → P (call_as p q (Setting v) i k t)
     → P (call_as p q (SettingTtl v now) i k t)
-    → P (gives (Refused BadTag) t)
+    → P (gives (Err BadTag) t)
     → P (write_as p q wanted v now i k t)
 unfolding write_as
 write_as_lem p q wanted v now i k t P a b c = go (eqb wanted (status_byte Set)) (eqb wanted (status_byte Ttl))
   where
-    go : (x y : Bool) → P (pick x (call_as p q (Setting v) i k t) (pick y (call_as p q (SettingTtl v now) i k t) (gives (Refused BadTag) t)))
+    go : (x y : Bool) → P (pick x (call_as p q (Setting v) i k t) (pick y (call_as p q (SettingTtl v now) i k t) (gives (Err BadTag) t)))
     go true y = a
     go false true = b
     go false false = c

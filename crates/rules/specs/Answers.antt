@@ -12,22 +12,11 @@ use Rattle.rules.specs.declared.Party.{Party}
 use Rattle.rules.specs.declared.Party.TheVariants.{Metering, Building, Nobody}
 use Rattle.rules.specs.declared.Profile.TheVariants as profile
 use Rattle.rules.specs.declared.Mode.TheVariants as mode
-use Rattle.rules.specs.declared.Answer.{Answer}
-use Rattle.rules.specs.declared.Answer.TheVariants as plain
-use Rattle.rules.specs.declared.Offered.{Offered}
-use Rattle.rules.specs.declared.Offered.TheVariants as offered
-use Rattle.rules.specs.declared.Remembered.{Remembered}
-use Rattle.rules.specs.declared.Remembered.TheVariants as remembered
-use Rattle.rules.specs.declared.Listed.{Listed}
-use Rattle.rules.specs.declared.Listed.TheVariants as listed
-use Rattle.rules.specs.declared.Written.{Written}
-use Rattle.rules.specs.declared.Written.TheVariants as written
-use Rattle.rules.specs.declared.Computed.{Computed}
-use Rattle.rules.specs.declared.Computed.TheVariants as computed
+use Rattle.std.specs.Prelude.{Bool, Err, None, Ok, Option, Result, Some, false, true}
+use Rattle.rules.specs.declared.DeltaFault.{DeltaFault}
 use Rattle.rules.specs.declared.DeltaRead.{DeltaRead}
-use Rattle.rules.specs.declared.DeltaRead.TheVariants as read
-use Rattle.rules.specs.declared.Applied.{Applied}
-use Rattle.rules.specs.declared.Applied.TheVariants as applied
+use Rattle.rules.specs.declared.Heartbeat.{Heartbeat}
+use Rattle.rules.specs.declared.Sent.{Sent}
 
 -- the number of the refusal: document 01's from 1 to 15, document 02's behind them
 abbrev pub number_of : Refusal → ℕ
@@ -116,38 +105,38 @@ accepted vs = record { number = 0; values = vs; need = 0 }
 abbrev pub refused : (why : Refusal) (vs : List ℕ) → Told
 refused r vs = record { number = number_of r; values = vs; need = need_of r }
 
-unfoldable pub answer_told : Answer → Told
-answer_told plain.Done = accepted []
-answer_told (plain.Refused r) = refused r []
+unfoldable pub answer_told : (Result (Unit {0}) Refusal) → Told
+answer_told (Ok _) = accepted []
+answer_told (Err r) = refused r []
 
 -- yes is 1, no is 0
-unfoldable pub offered_told : Offered → Told
-offered_told offered.Yes = accepted (1 ∷ [])
-offered_told offered.No = accepted (0 ∷ [])
-offered_told (offered.Refused r) = refused r []
+unfoldable pub offered_told : (Result Bool Refusal) → Told
+offered_told (Ok true) = accepted (1 ∷ [])
+offered_told (Ok false) = accepted (0 ∷ [])
+offered_told (Err r) = refused r []
 
 -- the heartbeat, or nothing
-unfoldable pub remembered_told : Remembered → Told
-remembered_told (remembered.With h) = accepted (h.0 ∷ [])
-remembered_told remembered.Not = accepted []
-remembered_told (remembered.Refused r) = refused r []
+unfoldable pub remembered_told : (Result (Option Heartbeat) Refusal) → Told
+remembered_told (Ok (Some h)) = accepted (h.0 ∷ [])
+remembered_told (Ok None) = accepted []
+remembered_told (Err r) = refused r []
 
-unfoldable pub listed_told : Listed → Told
-listed_told (listed.Hits n) = accepted (n ∷ [])
-listed_told (listed.Refused r) = refused r []
+unfoldable pub listed_told : (Result ℕ Refusal) → Told
+listed_told (Ok n) = accepted (n ∷ [])
+listed_told (Err r) = refused r []
 
-unfoldable pub written_told : Written → Told
-written_told (written.Bytes n) = accepted (n ∷ [])
-written_told (written.Refused r) = refused r []
+unfoldable pub written_told : (Result ℕ Refusal) → Told
+written_told (Ok n) = accepted (n ∷ [])
+written_told (Err r) = refused r []
 
-unfoldable pub computed_told : Computed → Told
-computed_told (computed.Delta ops bytes) = accepted (ops ∷ bytes ∷ [])
-computed_told (computed.Refused r) = refused r []
+unfoldable pub computed_told : (Result Sent Refusal) → Told
+computed_told (Ok s) = accepted (s.ops ∷ s.bytes ∷ [])
+computed_told (Err r) = refused r []
 
-unfoldable pub read_told : DeltaRead → Told
-read_told (read.Good ops nodes) = accepted (ops ∷ nodes ∷ [])
-read_told (read.Refused r at) = refused r (at ∷ [])
+unfoldable pub read_told : (Result DeltaRead DeltaFault) → Told
+read_told (Ok d) = accepted (d.ops ∷ d.nodes ∷ [])
+read_told (Err f) = refused f.why (f.at ∷ [])
 
-unfoldable pub applied_told : Applied → Told
-applied_told (applied.Nodes n) = accepted (n ∷ [])
-applied_told (applied.Refused r at) = refused r (at ∷ [])
+unfoldable pub applied_told : (Result ℕ DeltaFault) → Told
+applied_told (Ok n) = accepted (n ∷ [])
+applied_told (Err f) = refused f.why (f.at ∷ [])

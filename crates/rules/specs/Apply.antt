@@ -18,8 +18,8 @@ use Rattle.rules.specs.declared.Mode.TheVariants as mode
 use Rattle.rules.specs.declared.NodeAnswer.{NodeAnswer}
 use Rattle.rules.specs.declared.NodeAnswer.TheVariants as node
 use Rattle.rules.specs.declared.Refusal.TheVariants.{NoPlace}
-use Rattle.rules.specs.declared.Applied.{Applied}
-use Rattle.rules.specs.declared.Applied.TheVariants.{Nodes, Refused}
+use Rattle.std.specs.Prelude.{Err, Ok, Result}
+use Rattle.rules.specs.declared.DeltaFault.{DeltaFault}
 
 -- ---- what may differ from table to table
 
@@ -167,7 +167,7 @@ codes (a ∷ l) = code_of a ∷ codes l
 
 -- an answer, the table and the lent list of answers after the call
 pub record ApplyOutcome : Type 0 where
-  pub answer : Applied
+  pub answer : (Result ℕ DeltaFault)
   pub table : Table
   pub list : Bytes
 
@@ -175,12 +175,12 @@ pub record ApplyOutcome : Type 0 where
 abbrev pub apply_parts : (take : Taking) (parts : List Part) (table : Table) (list : Bytes) → ApplyOutcome
 apply_parts take xs t l =
     pick (leb (length xs) (length l))
-    (record { answer = Nodes (length xs); table = (apply_each take xs t).table; list = put 0 (codes (apply_each take xs t).answers) l })
-    (record { answer = Refused NoPlace 0; table = t; list = l })
+    (record { answer = Ok (length xs); table = (apply_each take xs t).table; list = put 0 (codes (apply_each take xs t).answers) l })
+    (record { answer = (Err (record { why = NoPlace; at = 0 })); table = t; list = l })
 
 abbrev pub apply_ops : (take : Taking) (read : Ops) (table : Table) (list : Bytes) → ApplyOutcome
 apply_ops take (Good ops) t l = apply_parts take (parts_of ops) t l
-apply_ops take (Faulty r at) t l = record { answer = Refused r at; table = t; list = l }
+apply_ops take (Faulty r at) t l = record { answer = (Err (record { why = r; at = at })); table = t; list = l }
 
 -- read, then node by node
 unfoldable pub apply : (ways : Ways) (delta : Bytes) (now : ℕ) (table : Table) (list : Bytes) → ApplyOutcome

@@ -11,8 +11,9 @@ use Rattle.rules.specs.declared.Status.{Status}
 use Rattle.rules.specs.declared.Status.TheVariants.{Set, Delete, Ttl}
 use Rattle.rules.specs.declared.Refusal.{Refusal}
 use Rattle.rules.specs.declared.Refusal.TheVariants.{TooLong, Cut, BadTag, OutOfOrder, NodeTwice, TooMany}
+use Rattle.std.specs.Prelude.{Err, Ok, Result}
+use Rattle.rules.specs.declared.DeltaFault.{DeltaFault}
 use Rattle.rules.specs.declared.DeltaRead.{DeltaRead}
-use Rattle.rules.specs.declared.DeltaRead.TheVariants as read
 
 pub data Op : Type 0 where
   -- number, last_gc, from
@@ -239,9 +240,9 @@ parts_of (SetMaxVersionOp x ∷ ops) = parts_of ops
 
 -- ---- delta reading as a call
 
-abbrev pub read_answer : Ops → DeltaRead
-read_answer (Good ops) = read.Good (length ops) (length (parts_of ops))
-read_answer (Faulty r at) = read.Refused r at
+abbrev pub read_answer : Ops → (Result DeltaRead DeltaFault)
+read_answer (Good ops) = (Ok (record { ops = (length ops); nodes = (length (parts_of ops)) }))
+read_answer (Faulty r at) = (Err (record { why = r; at = at }))
 
-unfoldable pub delta_read : (bytes : Bytes) → DeltaRead
+unfoldable pub delta_read : (bytes : Bytes) → (Result DeltaRead DeltaFault)
 delta_read l = read_answer (read_delta l)

@@ -13,8 +13,7 @@ use Rattle.rules.specs.Delta.{number_lacks}
 use Rattle.rules.specs.declared.Heartbeat.{Heartbeat}
 use Rattle.rules.specs.declared.Refusal.{Refusal}
 use Rattle.rules.specs.declared.Refusal.TheVariants.{NoPlace, Cut, TooMany, BadEdition}
-use Rattle.rules.specs.declared.Written.{Written}
-use Rattle.rules.specs.declared.Written.TheVariants as written
+use Rattle.std.specs.Prelude.{Err, Ok, Result}
 
 -- what a digest tells of a node
 pub record NodeDigest : Type 0 where
@@ -122,10 +121,10 @@ read_digest edition l = gathered (read_entries edition l)
 abbrev pub fits_at : (place n : ℕ) (bytes : Bytes) → Bool
 fits_at place n l = leb place (length l) && leb n (length l - place)
 
-abbrev pub write_bytes : (bytes : Bytes) (place : ℕ) (datagram : Bytes) → Given Written Bytes
-write_bytes b place l = pick (fits_at place (length b) l) (given (written.Bytes (length b)) (put place b l)) (given (written.Refused NoPlace) l)
+abbrev pub write_bytes : (bytes : Bytes) (place : ℕ) (datagram : Bytes) → Given (Result ℕ Refusal) Bytes
+write_bytes b place l = pick (fits_at place (length b) l) (given (Ok (length b)) (put place b l)) (given (Err NoPlace) l)
 
 -- a digest written into a datagram from its place: 20, 8
-unfoldable pub write_digest : (edition : ℕ) (excluded : List ℕ) (place : ℕ) (table : Table) (datagram : Bytes) → Given Written Bytes
+unfoldable pub write_digest : (edition : ℕ) (excluded : List ℕ) (place : ℕ) (table : Table) (datagram : Bytes) → Given (Result ℕ Refusal) Bytes
 write_digest edition excluded place t l =
-    pick (is_edition edition) (write_bytes (digest_bytes edition (digest_of excluded t)) place l) (given (written.Refused BadEdition) l)
+    pick (is_edition edition) (write_bytes (digest_bytes edition (digest_of excluded t)) place l) (given (Err BadEdition) l)

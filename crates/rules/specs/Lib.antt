@@ -1,5 +1,6 @@
 -- What document 01 means, in the order of reading. Evidence stands apart: the bench cases in proofs/Cases, and four runs of demand 3 in demand3/proofs/FourRuns.
 pub mod Sizes
+pub mod Results
 pub mod Answers
 pub mod Given
 pub mod Node

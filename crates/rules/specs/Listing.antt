@@ -13,7 +13,7 @@ use Rattle.rules.specs.Digest.{write_bytes}
 use Rattle.rules.specs.declared.Refusal.{Refusal}
 use Rattle.rules.specs.declared.Status.{Status}
 use Rattle.rules.specs.declared.Status.TheVariants.{Set, Delete, Ttl}
-use Rattle.rules.specs.declared.Written.{Written}
+use Rattle.std.specs.Prelude.{Result}
 
 -- the bytes of an ASCII text
 abbrev pub ascii : (text : String) → Bytes
@@ -79,5 +79,5 @@ unfoldable pub listing : (delta : Bytes) → Bytes
 listing l = listing_of (read_delta l) (length l)
 
 -- the listing as a call: at the front of a lent buffer, and 8 with the buffer untouched where it is too short
-abbrev pub list_delta : (delta out : Bytes) → Given Written Bytes
+abbrev pub list_delta : (delta out : Bytes) → Given (Result ℕ Refusal) Bytes
 list_delta delta out = write_bytes (listing delta) 0 out

@@ -358,85 +358,35 @@ impl Refusal {
     {
         match self {
             Refusal::Cut(n) => n,
-            Refusal::TooLong => 0,
-            Refusal::NoNode => 0,
-            Refusal::NoKey => 0,
-            Refusal::NinthNode => 0,
-            Refusal::NodeFull => 0,
-            Refusal::Exhausted => 0,
-            Refusal::BadMtu => 0,
-            Refusal::NoPlace => 0,
-            Refusal::BadTag => 0,
-            Refusal::OutOfOrder => 0,
-            Refusal::NodeTwice => 0,
-            Refusal::TooMany => 0,
-            Refusal::BadTable => 0,
-            Refusal::BadTies => 0,
-            Refusal::BadForm => 0,
-            Refusal::SmallerTotal => 0,
-            Refusal::OtherParty => 0,
-            Refusal::BadEdition => 0,
-            Refusal::BadPeer => 0,
-            Refusal::NobodyPresent => 0,
-            Refusal::BadPlan => 0,
+            _ => 0,
         }
     }
 }
 
-// The answer of a call that has nothing to tell.
+// What a delta holds that was written: so many operations, in so many bytes.
 #[derive(Clone, Copy)]
-pub enum Answer {
-    Done,
-    Refused(Refusal),
+pub struct Sent {
+    pub ops: usize,
+    pub bytes: usize,
 }
 
-// The answer of a heartbeat offer: whether it was news.
+// What a delta holds that was read.
 #[derive(Clone, Copy)]
-pub enum Offered {
-    Yes,
-    No,
-    Refused(Refusal),
+pub struct DeltaRead {
+    pub ops: usize,
+    pub nodes: usize,
 }
 
-// The answer to asking for a removed node: it is remembered with its last heartbeat, or it is not.
+// Why a delta is refused, and where the faulty operation's tag stands: 0 where the refusal has no place.
 #[derive(Clone, Copy)]
-pub enum Remembered {
-    With(Heartbeat),
-    Not,
-    Refused(Refusal),
+pub struct DeltaFault {
+    pub why: Refusal,
+    pub at: usize,
 }
 
-// The answer of a prefix listing: how many records it found.
+// The last_gc and max of a node, as a digest tells them.
 #[derive(Clone, Copy)]
-pub enum Listed {
-    Hits(usize),
-    Refused(Refusal),
-}
-
-// The answer of digest writing and of the listing of a delta: how many bytes were written.
-#[derive(Clone, Copy)]
-pub enum Written {
-    Bytes(usize),
-    Refused(Refusal),
-}
-
-// The answer of computing: what the delta holds.
-#[derive(Clone, Copy)]
-pub enum Computed {
-    Delta { ops: usize, bytes: usize },
-    Refused(Refusal),
-}
-
-// The answer of delta reading: what the delta holds, or why it is refused and where the faulty operation's tag stands.
-#[derive(Clone, Copy)]
-pub enum DeltaRead {
-    Good { ops: usize, nodes: usize },
-    Refused { why: Refusal, at: usize },
-}
-
-// The answer of applying: how many answers it gave. A refusal has a place as in delta reading, 0 where there is none.
-#[derive(Clone, Copy)]
-pub enum Applied {
-    Nodes(usize),
-    Refused { why: Refusal, at: usize },
+pub struct Pair {
+    pub last_gc: u64,
+    pub max: u64,
 }

@@ -37,7 +37,8 @@ pub fn fill<R: Read>(input: &mut R, room: &mut [u8]) -> Result<Filled>
     ensures ended { IfOk result (λ f. f.ended ≡ true → IsAtEnd (R.remaining input.new)) }
     ensures full { IfOk result (λ f. f.ended ≡ false → f.len ≡ length room.new) }
 {
-    let mut len: usize = 0;
+    let mut len = 0;
+    // A read gives as many bytes as it will, so that there is no list of turns to go over.
     while len < room.len() {
         let more = match input.read(&mut room[len..]) {
             Ok(n) => n,

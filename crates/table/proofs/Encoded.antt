@@ -11,7 +11,7 @@ use Rattle.rules.specs.Lent.{both, from_table, lent_apply, lent_apply_as, on_tab
 use Rattle.rules.specs.Local.{Outcome}
 use Rattle.rules.specs.Table.{Table}
 use Rattle.rules.specs.Whole.{Whole, decode_whole, encode_whole, obeys_whole}
-use Rattle.rules.specs.declared.Applied.TheVariants as applied
+use Rattle.std.specs.Prelude.{Err}
 use Rattle.rules.specs.declared.Refusal.TheVariants.{BadTable}
 use Rattle.table.proofs.Wholes.{decode-encode-whole, valid-encode-whole}
 
@@ -38,6 +38,6 @@ module _ (w : Whole) (o : obeys_whole w ≡ true) where
   pub apply-whole : (delta : List ℕ) (now : ℕ) (list : List ℕ) → lent_apply delta now list (encode_whole w) ≡ stored_apply w (apply (ways_in w.kind) delta now w.table list)
   unfolding lent_apply_as
   apply-whole delta now list =
-      ap (λ (b : Bool). pick b (stored_apply (decode_whole l) (apply (ways_in (decode_whole l).kind) delta now (decode_whole l).table list)) (given (applied.Refused BadTable 0) (both l list)))
+      ap (λ (b : Bool). pick b (stored_apply (decode_whole l) (apply (ways_in (decode_whole l).kind) delta now (decode_whole l).table list)) (given (Err (record { why = BadTable; at = 0 })) (both l list)))
       (valid-encode-whole w o)
       ∙ ap (λ (u : Whole). stored_apply u (apply (ways_in u.kind) delta now u.table list)) (decode-encode-whole w o)

@@ -12,6 +12,7 @@ ghost use Rattle.rules.specs.Whole.{valid_whole};
 ghost use Rattle.table.specs.Tests.{key_length, rec_good, node_good, count_of, recs_in, nodes_of};
 
 use rules::{Header, sizes};
+use std::cmp::Ordering;
 use table::layout;
 
 // The versions of a node's records, in its first `n` places.
@@ -20,10 +21,8 @@ fn versions_of(node: &[u8], n: usize) -> [u64; Header::RECORDS]
     ensures { (length result ≡ max_records) × (take n result ≡ versions (recs_in node.now)) }
 {
     let mut vs = [0u64; Header::RECORDS];
-    let mut i = 0;
-    while i < n {
+    for i in 0..n {
         vs[i] = fields::read_u64(node, table::record_place(i) + layout::VERSION);
-        i += 1;
     }
     vs
 }
@@ -34,9 +33,9 @@ fn key_below(x: &[u8], y: &[u8]) -> bool
     ensures { result ≡ less_bytes (decode_rec x.now).kv.key (decode_rec y.now).kv.key }
 {
     match fields::compare(table::key_of(x), table::key_of(y)) {
-        fields::Order::Less => true,
-        fields::Order::Same => false,
-        fields::Order::More => false,
+        Ordering::Less => true,
+        Ordering::Equal => false,
+        Ordering::Greater => false,
     }
 }
 
@@ -46,11 +45,8 @@ fn keys_rise(node: &[u8], n: usize, max: u64) -> bool
         × (all_blocks (rec_good max) rec_width n (drop (rec_place 0) node.now) ≡ true) }
     ensures { result ≡ keys_rise (recs_in node.now) }
 {
-    let mut i = 0;
-    while i + 1 < n {
-        if key_below(table::record_of(node, i), table::record_of(node, i + 1)) {
-            i += 1;
-        } else {
+    for i in 1..n {
+        if !key_below(table::record_of(node, i - 1), table::record_of(node, i)) {
             return false;
         }
     }
@@ -84,11 +80,8 @@ fn check_nodes(table: &[u8], n: usize) -> bool
     requires { (length table.now ≡ table_width) × (n ≤ max_nodes) }
     ensures { result ≡ all_blocks node_good node_width n (drop (node_place 0) table.now) }
 {
-    let mut i = 0;
-    while i < n {
-        if check_node(table::node_of(table, i)) {
-            i += 1;
-        } else {
+    for i in 0..n {
+        if !check_node(table::node_of(table, i)) {
             return false;
         }
     }
@@ -100,13 +93,10 @@ fn numbers_rise(table: &[u8], n: usize) -> bool
     requires { (length table.now ≡ table_width) × (n ≤ max_nodes) × (n ≡ nodes_of table.now) }
     ensures { result ≡ rising (numbers_of (decode table.now)) }
 {
-    let mut i = 0;
-    while i + 1 < n {
-        let x = fields::read_u64(table, table::node_place(i));
-        let y = fields::read_u64(table, table::node_place(i + 1));
-        if x < y {
-            i += 1;
-        } else {
+    for i in 1..n {
+        let x = fields::read_u64(table, table::node_place(i - 1));
+        let y = fields::read_u64(table, table::node_place(i));
+        if y <= x {
             return false;
         }
     }

@@ -105,11 +105,9 @@ fn put_records(out: &mut [u8], at: usize, node: &[u8]) -> usize
 {
     let count = fields::byte_at(node, layout::RECORD_COUNT);
     let mut n = at;
-    let mut i = 0;
-    while i < count {
+    for i in 0..count {
         let record = table::record_of(node, i);
         n = put_record(out, n, record);
-        i += 1;
     }
     n
 }
@@ -144,11 +142,9 @@ pub fn put_nodes(out: &mut [u8], at: usize, area: &[u8]) -> usize
 {
     let count = fields::byte_at(area, layout::NODE_COUNT);
     let mut n = at;
-    let mut i = 0;
-    while i < count {
+    for i in 0..count {
         let node = table::node_of(area, i);
         n = put_node(out, n, node);
-        i += 1;
     }
     n
 }
@@ -160,11 +156,9 @@ pub fn count_records(area: &[u8]) -> usize
 {
     let count = fields::byte_at(area, layout::NODE_COUNT);
     let mut n: usize = 0;
-    let mut i = 0;
-    while i < count {
+    for i in 0..count {
         let node = table::node_of(area, i);
         n += fields::byte_at(node, layout::RECORD_COUNT);
-        i += 1;
     }
     n
 }
@@ -178,13 +172,11 @@ pub fn put_removed(out: &mut [u8], at: usize, tail: &[u8]) -> usize
 {
     let count = fields::byte_at(tail, layout::REMOVED_COUNT);
     let mut n = at;
-    let mut i = 0;
-    while i < count {
+    for i in 0..count {
         let a = table::removed_place(i);
         let number = fields::read_u64(tail, a + layout::REMOVED_NUMBER);
         let beat = fields::read_u64(tail, a + layout::REMOVED_HEARTBEAT);
         n = listing_room::put_last_two(out, n, b"removed=", number, b" heartbeat=", beat);
-        i += 1;
     }
     n
 }

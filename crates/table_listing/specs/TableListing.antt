@@ -20,7 +20,8 @@ use Rattle.rules.specs.declared.Mode.{Mode}
 use Rattle.rules.specs.declared.Mode.TheVariants.{Plain, Fenced, Guarded}
 use Rattle.rules.specs.declared.Profile.{Profile}
 use Rattle.rules.specs.declared.Profile.TheVariants.{Free, Meter, Shared}
-use Rattle.rules.specs.declared.Written.{Written}
+use Rattle.std.specs.Prelude.{Result}
+use Rattle.rules.specs.declared.Refusal.{Refusal}
 use Rattle.table.specs.Tests.{mode_in, profile_in, nodes_of, node_good}
 use Rattle.listing_text.specs.Texts.{named, numbered}
 use Rattle.listing_room.specs.Room.{last_number, last_two, status_word}
@@ -119,7 +120,7 @@ unfoldable pub table_listing : (bytes : Bytes) → Bytes
 table_listing l = pick (valid_whole l) (whole_text (decode_whole l)) (wrong_text l)
 
 -- the listing as a call: at the front of a lent buffer, and 8 with the buffer untouched where it is too short
-abbrev pub list_table : (table out : Bytes) → Given Written Bytes
+abbrev pub list_table : (table out : Bytes) → Given (Result ℕ Refusal) Bytes
 list_table table out = write_bytes (table_listing table) 0 out
 
 -- how long it is at most: the kind, 8 nodes with 32 records each, 16 removed nodes, the end

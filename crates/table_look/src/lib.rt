@@ -8,7 +8,6 @@ ghost use Rattle.table_listing.specs.TableListing.{table_listing};
 ghost use Rattle.table_look.specs.Stored.{table_in};
 
 use anyhow::Result;
-use rules::Written;
 use std::io::Write;
 
 // More than a stored table has, so that another length is told too.
@@ -37,7 +36,7 @@ pub fn show<W: Write>(out: &mut W, table: &[u8]) -> Result<()>
     let mut output = [0u8; table_show::LONGEST];
     let listed = table_show::list_table(table, &mut output);
     match listed {
-        Written::Bytes(n) => streams::put(out, &output[..n]),
-        Written::Refused(_) => unreachable!(),
+        Ok(n) => streams::put(out, &output[..n]),
+        Err(_) => unreachable!(),
     }
 }

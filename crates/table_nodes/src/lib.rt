@@ -59,9 +59,7 @@ fn raise_from(table: &mut [u8], i: usize, n: usize)
     requires { LaidTable table.old × (i ≤ n) × (n < max_nodes) }
     ensures { table.new ≡ put (node_place i + node_width) (part (node_place i) ((n - i) * node_width) table.old) table.old }
 {
-    let mut k = n;
-    while i < k {
-        k -= 1;
+    for k in (i..n).rev() {
         let a = table::node_place(k);
         let e = a + layout::PAIR;
         raise(&mut table[a..e]);
@@ -74,12 +72,10 @@ fn lower_behind(table: &mut [u8], i: usize, n: usize)
     ensures { table.new ≡ put (node_place i)
         (part (node_place i + node_width) ((n - (i + 1)) * node_width) table.old) table.old }
 {
-    let mut k = i;
-    while k + 1 < n {
+    for k in i..n - 1 {
         let a = table::node_place(k);
         let e = a + layout::PAIR;
         lower(&mut table[a..e]);
-        k += 1;
     }
 }
 

@@ -7,8 +7,8 @@ use native.Mathlib.Nat.{add-zero, add_assoc, zero-add}
 use native.Mathlib.Numerals.{add-one}
 use lib.ListN.{length, drop, drop_of_length-le}
 use borrow.Author.Tests.{eq-eqb, ne_eqb, lt-ltb, le-ltb}
-use Rattle.fields.specs.declared.Order.{Order}
-use Rattle.fields.specs.declared.Order.TheVariants.{Less, Same, More}
+use Rattle.std.specs.declared.cmp.Ordering.{Ordering}
+use Rattle.std.specs.declared.cmp.Ordering.TheVariants.{Less, Equal, Greater}
 use Rattle.table_read.specs.Find.{further, seek, find_by, number_order}
 use Rattle.table_read.specs.declared.Place.{Place}
 use Rattle.table_read.specs.declared.Place.TheVariants.{At, Free}
@@ -23,7 +23,7 @@ pub further-none : (p : Place) → further 0 p ≡ p
 further-none (At i) = ap At (zero-add i)
 further-none (Free i) = ap Free (zero-add i)
 
-module _ {A : Type 0} (f : A → Order) (l : List A) where
+module _ {A : Type 0} (f : A → Ordering) (l : List A) where
   pub start : further 0 (find_by f (drop 0 l)) ≡ find_by f l
   start = further-none (find_by f l)
 
@@ -36,23 +36,23 @@ module _ {A : Type 0} (f : A → Order) (l : List A) where
     unfolding find_by
     step = ap (λ (r : List A). further i (find_by f r)) e
 
-    pub step_same : f a ≡ Same → further i (find_by f (drop i l)) ≡ At i
-    step_same q = step ∙ ap (λ (o : Order). further i (seek o (find_by f (drop (suc i) l)))) q ∙ ap At (add-zero i)
+    pub step_same : f a ≡ Equal → further i (find_by f (drop i l)) ≡ At i
+    step_same q = step ∙ ap (λ (o : Ordering). further i (seek o (find_by f (drop (suc i) l)))) q ∙ ap At (add-zero i)
 
     pub step_less : f a ≡ Less → further i (find_by f (drop i l)) ≡ Free i
-    step_less q = step ∙ ap (λ (o : Order). further i (seek o (find_by f (drop (suc i) l)))) q ∙ ap Free (add-zero i)
+    step_less q = step ∙ ap (λ (o : Ordering). further i (seek o (find_by f (drop (suc i) l)))) q ∙ ap Free (add-zero i)
 
-    pub step-more : f a ≡ More → further i (find_by f (drop i l)) ≡ further (i + 1) (find_by f (drop (i + 1) l))
+    pub step-more : f a ≡ Greater → further i (find_by f (drop i l)) ≡ further (i + 1) (find_by f (drop (i + 1) l))
     step-more q =
         step
-        ∙ ap (λ (o : Order). further i (seek o (find_by f (drop (suc i) l)))) q
+        ∙ ap (λ (o : Ordering). further i (seek o (find_by f (drop (suc i) l)))) q
         ∙ further-further i 1 (find_by f (drop (suc i) l))
         ∙ ap (λ (j : ℕ). further (i + 1) (find_by f (drop j l))) (sym (add-one i))
 
 -- ---- numbers
 
 module _ (i n : ℕ) where
-  pub number_same : i ≡ n → number_order i n ≡ Same
+  pub number_same : i ≡ n → number_order i n ≡ Equal
   unfolding number_order
   number_same h = rw (number_order, eq-eqb i n h)
 
@@ -60,6 +60,6 @@ module _ (i n : ℕ) where
   unfolding number_order
   number-less h = rw (number_order, ne_eqb i n (λ e. omega arith), lt-ltb i n h)
 
-  pub number_more : n < i → number_order i n ≡ More
+  pub number_more : n < i → number_order i n ≡ Greater
   unfolding number_order
   number_more h = rw (number_order, ne_eqb i n (λ e. omega arith), le-ltb i n (omega arith))

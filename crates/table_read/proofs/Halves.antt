@@ -10,8 +10,8 @@ use native.Mathlib.Nat.{not-suc-le-zero, le_of_suc-le-suc}
 use lib.ListN.{length, get_or, take, drop, length-take}
 use Rattle.fields.specs.Choice.{◌∈◌, here, later}
 use Rattle.fields.specs.Order.{less_bytes, order_of}
-use Rattle.fields.specs.declared.Order.{Order}
-use Rattle.fields.specs.declared.Order.TheVariants.{Less, Same, More}
+use Rattle.std.specs.declared.cmp.Ordering.{Ordering}
+use Rattle.std.specs.declared.cmp.Ordering.TheVariants.{Less, Equal, Greater}
 use Rattle.fields.proofs.Choice.{in-at, in-none}
 use Rattle.fields.proofs.Ordered.{same_true, less-trans, more-order, order_same, order-more}
 use Rattle.rules.specs.Node.{Rec}
@@ -29,7 +29,7 @@ use Rattle.table_read.proofs.Placed.{free_in}
 
 -- ---- any search
 
-module _ {A : Type 0} (f : A → Order) where
+module _ {A : Type 0} (f : A → Ordering) where
   -- one that comes too late: what stands before it has the whole's answer
   pub before-late : (l : List A) (j : ℕ) (a : A) → drop j l ≡ a ∷ drop (suc j) l → f a ≡ Less → find_by f (take j l) ≡ find_by f l
   unfolding find_by
@@ -37,11 +37,11 @@ module _ {A : Type 0} (f : A → Order) where
   before-late [] (suc j) a e q = let z : ◌≡◌ {A = ℕ} 0 1 = cc in absurd (omega arith)
   before-late (b ∷ l) zero a e q =
       let y : b ≡ a = cc in
-      ap (λ (o : Order). seek o (find_by f l)) (sym (ap f y ∙ q))
+      ap (λ (o : Ordering). seek o (find_by f l)) (sym (ap f y ∙ q))
   before-late (b ∷ l) (suc j) a e q = ap (seek (f b)) (before-late l j a e q)
 
   -- where all before j come too early, the search goes on at j
-  pub behind-early : (l : List A) (j : ℕ) → j ≤ length l → ((x : A) → x ∈ take j l → f x ≡ More) → further j (find_by f (drop j l)) ≡ find_by f l
+  pub behind-early : (l : List A) (j : ℕ) → j ≤ length l → ((x : A) → x ∈ take j l → f x ≡ Greater) → further j (find_by f (drop j l)) ≡ find_by f l
   unfolding find_by
   behind-early l zero g h = further-none (find_by f l)
   behind-early [] (suc j) g h = absurd (not-suc-le-zero g)
@@ -50,7 +50,7 @@ module _ {A : Type 0} (f : A → Order) where
       ap (λ (n : ℕ). further n (find_by f (drop j l))) i
       ∙ sym (further-further 1 j (find_by f (drop j l)))
       ∙ ap (further 1) (behind-early l j (le_of_suc-le-suc g) (λ x m. h x (later m)))
-      ∙ ap (λ (o : Order). seek o (find_by f l)) (sym (h b (here refl)))
+      ∙ ap (λ (o : Ordering). seek o (find_by f l)) (sym (h b (here refl)))
 
   -- where both halves end at i, nothing is found and i is the place
   pub met : (l : List A) (i : ℕ) → find_by f (take i l) ≡ find_by f l → further i (find_by f (drop i l)) ≡ find_by f l → find_by f l ≡ Free i
@@ -97,20 +97,20 @@ module _ (k b : List ℕ) (s : keys_rise (recs_in b) ≡ true) (j : ℕ) (h : j 
   inside : j ≤ length (recs_in b)
   inside = rw length-recs (omega arith)
 
-  at_same : order_of k (rec_at j b).kv.key ≡ Same → (x : Rec) → x ∈ take j (recs_in b) → to_key k x ≡ More
+  at_same : order_of k (rec_at j b).kv.key ≡ Equal → (x : Rec) → x ∈ take j (recs_in b) → to_key k x ≡ Greater
   at_same q x m =
       more-order k x.kv.key (subst (λ (y : List ℕ). less_bytes x.kv.key y ≡ true) (sym (same_true k (rec_at j b).kv.key (order_same k (rec_at j b).kv.key q))) (below x m))
 
-  at_more : order_of k (rec_at j b).kv.key ≡ More → (x : Rec) → x ∈ take j (recs_in b) → to_key k x ≡ More
+  at_more : order_of k (rec_at j b).kv.key ≡ Greater → (x : Rec) → x ∈ take j (recs_in b) → to_key k x ≡ Greater
   at_more q x m = more-order k x.kv.key (less-trans x.kv.key (rec_at j b).kv.key k (below x m) (order-more k (rec_at j b).kv.key q))
 
-  pub half-same : order_of k (rec_at j b).kv.key ≡ Same → At j ≡ find_key k (recs_in b)
+  pub half-same : order_of k (rec_at j b).kv.key ≡ Equal → At j ≡ find_key k (recs_in b)
   half-same q =
       sym (step_same (to_key k) (recs_in b) j (rec_at j b) (recs-drop j b h) q) ∙ behind-early (to_key k) (recs_in b) j inside (at_same q)
 
   pub half-less : order_of k (rec_at j b).kv.key ≡ Less → find_key k (take j (recs_in b)) ≡ find_key k (recs_in b)
   half-less q = before-late (to_key k) (recs_in b) j (rec_at j b) (recs-drop j b h) q
 
-  pub half-more : order_of k (rec_at j b).kv.key ≡ More → further (j + 1) (find_key k (drop (j + 1) (recs_in b))) ≡ find_key k (recs_in b)
+  pub half-more : order_of k (rec_at j b).kv.key ≡ Greater → further (j + 1) (find_key k (drop (j + 1) (recs_in b))) ≡ find_key k (recs_in b)
   half-more q =
       sym (step-more (to_key k) (recs_in b) j (rec_at j b) (recs-drop j b h) q) ∙ behind-early (to_key k) (recs_in b) j inside (at_more q)

@@ -15,6 +15,8 @@ use borrow.Rule.Slice.PartMut.{put_mid}
 use Rattle.fields.specs.Parts.{part, put}
 use Rattle.fields.proofs.Lent.{seen, lent}
 use Rattle.rules.specs.Given.{Gives}
+use Rattle.rules.proofs.Results.{some-is}
+use Rattle.table_read.specs.declared.Span.{Span}
 use Rattle.rules.specs.Node.{Node}
 use Rattle.rules.specs.Table.{Entry, Table, node_of, set_node, keys_rise}
 use Rattle.rules.specs.Local.{Outcome, gives}
@@ -28,7 +30,7 @@ use Rattle.table.proofs.Tables.{valid-long, valid-few, encode-decode}
 use Rattle.table_read.specs.Find.{to_node, find_node, span_of, span_in, start_from, node_start}
 use Rattle.table_read.specs.declared.Place.{Place}
 use Rattle.table_read.specs.declared.Place.TheVariants.{At, Free}
-use Rattle.table_read.specs.declared.Span.TheVariants.{Held, Missing}
+use Rattle.std.specs.Prelude.{None, Some}
 use Rattle.table_read.proofs.Searched.{search-at, node-hit, node_in, node-found, node-missing, node-laid, node-rises}
 use Rattle.table_read.proofs.Placed.{node-changed}
 
@@ -39,18 +41,18 @@ pub record IsAt (p : Place) (start end : ℕ) : Type 0 where
   pub starts : start ≡ node_place i
   pub ends : end ≡ node_place i + node_width
 
-at_held : (p : Place) (start end : ℕ) → span_of p ≡ Held start end → IsAt p start end
-at_held (At i) start end e = record { i = i; found = refl; starts = cc; ends = cc }
+at_held : (p : Place) (start end : ℕ) → span_of p ≡ (Some (record { start = start; end = end })) → IsAt p start end
+at_held (At i) start end e = let s = some-is _ _ e in record { i = i; found = refl; starts = sym (ap (λ (x : Span). x.start) s); ends = sym (ap (λ (x : Span). x.end) s) }
 at_held (Free i) start end e = let z : ◌≡◌ {A = ℕ} 0 1 = cc in absurd (omega arith)
 
-free-missing : (n : ℕ) (l : List ℕ) (v : valid l ≡ true) (p : Place) → find_node n (decode l) ≡ p → span_of p ≡ Missing → node_of n (decode l) ≡ none
+free-missing : (n : ℕ) (l : List ℕ) (v : valid l ≡ true) (p : Place) → find_node n (decode l) ≡ p → span_of p ≡ None → node_of n (decode l) ≡ none
 free-missing n l v (At i) q e = let z : ◌≡◌ {A = ℕ} 0 1 = cc in absurd (omega arith)
 free-missing n l v (Free i) q e = node-missing l v n i q
 
 module _ (n : ℕ) (l : List ℕ) (v : valid l ≡ true) where
   -- ---- the node is held
 
-  module _ {start end : ℕ} (e : span_in n l ≡ Held start end) where
+  module _ {start end : ℕ} (e : span_in n l ≡ (Some (record { start = start; end = end }))) where
     at : IsAt (find_node n (decode l)) start end
     at = at_held (find_node n (decode l)) start end e
 
@@ -110,7 +112,7 @@ module _ (n : ℕ) (l : List ℕ) (v : valid l ≡ true) where
 
   -- ---- the node is missing
 
-  pub missing-node : span_in n l ≡ Missing → node_of n (decode l) ≡ none
+  pub missing-node : span_in n l ≡ None → node_of n (decode l) ≡ none
   missing-node e = free-missing n l v (find_node n (decode l)) refl e
 
   -- a rule that leaves the table

@@ -5,5 +5,4 @@ pub mod Placed
 pub mod Halves
 pub mod Held
 pub mod Located
-pub mod Among
 pub mod Reading

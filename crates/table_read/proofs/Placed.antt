@@ -12,8 +12,8 @@ use Rattle.fields.specs.Choice.{pick}
 use Rattle.fields.specs.Parts.{put}
 use Rattle.fields.specs.Blocks.{insert_at, remove_at}
 use Rattle.fields.specs.Order.{less_bytes}
-use Rattle.fields.specs.declared.Order.{Order}
-use Rattle.fields.specs.declared.Order.TheVariants.{Less, Same, More}
+use Rattle.std.specs.declared.cmp.Ordering.{Ordering}
+use Rattle.std.specs.declared.cmp.Ordering.TheVariants.{Less, Equal, Greater}
 use Rattle.fields.proofs.Ordered.{order_same, order-less, order-more, less-same, less-not, same-swap}
 use Rattle.rules.specs.Node.{Rec, Node, store}
 use Rattle.rules.proofs.Records.{key_of}
@@ -38,43 +38,43 @@ at-not-free : {X : Type 0} {i j : ℕ} → At i ≡ Free j → X
 at-not-free e = let z : ◌≡◌ {A = ℕ} 0 1 = cc in absurd (omega arith)
 
 -- C is the rule's change; R j is the code's, at place j
-module _ {A : Type 0} (g : A → Order) (C : List A → List A) (past : (a : A) (l : List A) → g a ≡ More → C (a ∷ l) ≡ a ∷ C l) (R : ℕ → List A → List A)
+module _ {A : Type 0} (g : A → Ordering) (C : List A → List A) (past : (a : A) (l : List A) → g a ≡ Greater → C (a ∷ l) ≡ a ∷ C l) (R : ℕ → List A → List A)
     (next : (j : ℕ) (a : A) (l : List A) → R (suc j) (a ∷ l) ≡ a ∷ R j l) where
-  step : (a : A) (l : List A) (m j : ℕ) → 1 + m ≡ j → g a ≡ More → C l ≡ R m l → C (a ∷ l) ≡ R j (a ∷ l)
+  step : (a : A) (l : List A) (m j : ℕ) → 1 + m ≡ j → g a ≡ Greater → C l ≡ R m l → C (a ∷ l) ≡ R j (a ∷ l)
   step a l m j y q ih =
       let s : suc m ≡ j = omega arith in
       past a l q ∙ ap (λ (r : List A). a ∷ r) ih ∙ sym (next m a l) ∙ ap (λ (k : ℕ). R k (a ∷ l)) s
 
-  pub change-at : ((a : A) (l : List A) → g a ≡ Same → C (a ∷ l) ≡ R 0 (a ∷ l)) → (l : List A) (j : ℕ) → find_by g l ≡ At j → C l ≡ R j l
+  pub change-at : ((a : A) (l : List A) → g a ≡ Equal → C (a ∷ l) ≡ R 0 (a ∷ l)) → (l : List A) (j : ℕ) → find_by g l ≡ At j → C l ≡ R j l
   unfolding find_by
   change-at here [] j e = free-not-at e
   change-at here (a ∷ l) j e = go (g a) refl e (change-at here l)
     where
-      more : g a ≡ More → (r : Place) → find_by g l ≡ r → further 1 r ≡ At j → ((m : ℕ) → find_by g l ≡ At m → C l ≡ R m l) → C (a ∷ l) ≡ R j (a ∷ l)
+      more : g a ≡ Greater → (r : Place) → find_by g l ≡ r → further 1 r ≡ At j → ((m : ℕ) → find_by g l ≡ At m → C l ≡ R m l) → C (a ∷ l) ≡ R j (a ∷ l)
       more q (At m) h e ih = let y : 1 + m ≡ j = cc in step a l m j y q (ih m h)
       more q (Free m) h e ih = free-not-at e
 
-      go : (o : Order) → g a ≡ o → seek o (find_by g l) ≡ At j → ((m : ℕ) → find_by g l ≡ At m → C l ≡ R m l) → C (a ∷ l) ≡ R j (a ∷ l)
+      go : (o : Ordering) → g a ≡ o → seek o (find_by g l) ≡ At j → ((m : ℕ) → find_by g l ≡ At m → C l ≡ R m l) → C (a ∷ l) ≡ R j (a ∷ l)
       go Less q e ih = free-not-at e
-      go Same q e ih = let y : 0 ≡ j = cc in here a l q ∙ ap (λ (k : ℕ). R k (a ∷ l)) y
-      go More q e ih = more q (find_by g l) refl e ih
+      go Equal q e ih = let y : 0 ≡ j = cc in here a l q ∙ ap (λ (k : ℕ). R k (a ∷ l)) y
+      go Greater q e ih = more q (find_by g l) refl e ih
 
   pub change-free : C [] ≡ R 0 [] → ((a : A) (l : List A) → g a ≡ Less → C (a ∷ l) ≡ R 0 (a ∷ l)) → (l : List A) (j : ℕ) → find_by g l ≡ Free j → C l ≡ R j l
   unfolding find_by
   change-free none here [] j e = let y : 0 ≡ j = cc in none ∙ ap (λ (k : ℕ). R k []) y
   change-free none here (a ∷ l) j e = go (g a) refl e (change-free none here l)
     where
-      more : g a ≡ More → (r : Place) → find_by g l ≡ r → further 1 r ≡ Free j → ((m : ℕ) → find_by g l ≡ Free m → C l ≡ R m l) → C (a ∷ l) ≡ R j (a ∷ l)
+      more : g a ≡ Greater → (r : Place) → find_by g l ≡ r → further 1 r ≡ Free j → ((m : ℕ) → find_by g l ≡ Free m → C l ≡ R m l) → C (a ∷ l) ≡ R j (a ∷ l)
       more q (At m) h e ih = at-not-free e
       more q (Free m) h e ih = let y : 1 + m ≡ j = cc in step a l m j y q (ih m h)
 
-      go : (o : Order) → g a ≡ o → seek o (find_by g l) ≡ Free j → ((m : ℕ) → find_by g l ≡ Free m → C l ≡ R m l) → C (a ∷ l) ≡ R j (a ∷ l)
+      go : (o : Ordering) → g a ≡ o → seek o (find_by g l) ≡ Free j → ((m : ℕ) → find_by g l ≡ Free m → C l ≡ R m l) → C (a ∷ l) ≡ R j (a ∷ l)
       go Less q e ih = let y : 0 ≡ j = cc in here a l q ∙ ap (λ (k : ℕ). R k (a ∷ l)) y
-      go Same q e ih = at-not-free e
-      go More q e ih = more q (find_by g l) refl e ih
+      go Equal q e ih = at-not-free e
+      go Greater q e ih = more q (find_by g l) refl e ih
 
 -- a free place is within the list or right behind it
-pub free_in : {A : Type 0} (g : A → Order) (l : List A) (j : ℕ) → find_by g l ≡ Free j → j ≤ length l
+pub free_in : {A : Type 0} (g : A → Ordering) (l : List A) (j : ℕ) → find_by g l ≡ Free j → j ≤ length l
 unfolding find_by
 free_in g [] j e = let y : 0 ≡ j = cc in omega arith
 free_in {A} g (a ∷ l) j e = go (g a) e (free_in g l)
@@ -83,15 +83,15 @@ free_in {A} g (a ∷ l) j e = go (g a) e (free_in g l)
     more (At m) q e ih = at-not-free e
     more (Free m) q e ih = let y : 1 + m ≡ j = cc in omega (arith, ih m q)
 
-    go : (o : Order) → seek o (find_by g l) ≡ Free j → ((m : ℕ) → find_by g l ≡ Free m → m ≤ length l) → j ≤ suc (length l)
+    go : (o : Ordering) → seek o (find_by g l) ≡ Free j → ((m : ℕ) → find_by g l ≡ Free m → m ≤ length l) → j ≤ suc (length l)
     go Less e ih = let y : 0 ≡ j = cc in omega arith
-    go Same e ih = at-not-free e
-    go More e ih = more (find_by g l) refl e ih
+    go Equal e ih = at-not-free e
+    go Greater e ih = more (find_by g l) refl e ih
 
 -- ---- records by key
 
 module _ (r : Rec) where
-  store-past : (a : Rec) (l : List Rec) → to_key (key_of r) a ≡ More → store r (a ∷ l) ≡ a ∷ store r l
+  store-past : (a : Rec) (l : List Rec) → to_key (key_of r) a ≡ Greater → store r (a ∷ l) ≡ a ∷ store r l
   unfolding store
   store-past a l q =
       let less : less_bytes a.kv.key (key_of r) ≡ true = order-more (key_of r) a.kv.key q in
@@ -116,11 +116,11 @@ module _ (r : Rec) where
 -- ---- nodes by number
 
 module _ (i n : ℕ) where
-  number_same : number_order i n ≡ Same → eqb i n ≡ true
+  number_same : number_order i n ≡ Equal → eqb i n ≡ true
   unfolding number_order
   number_same e = go (eqb i n) (ltb i n) refl e
     where
-      go : (s t : Bool) → eqb i n ≡ s → pick s Same (pick t Less More) ≡ Same → eqb i n ≡ true
+      go : (s t : Bool) → eqb i n ≡ s → pick s Equal (pick t Less Greater) ≡ Equal → eqb i n ≡ true
       go true t q e = q
       go false true q e = let z : ◌≡◌ {A = ℕ} 0 1 = cc in absurd (omega arith)
       go false false q e = let z : ◌≡◌ {A = ℕ} 0 1 = cc in absurd (omega arith)
@@ -129,16 +129,16 @@ module _ (i n : ℕ) where
   unfolding number_order
   number-less e = go (eqb i n) (ltb i n) refl refl e
     where
-      go : (s t : Bool) → eqb i n ≡ s → ltb i n ≡ t → pick s Same (pick t Less More) ≡ Less → (eqb i n ≡ false) × (ltb i n ≡ true)
+      go : (s t : Bool) → eqb i n ≡ s → ltb i n ≡ t → pick s Equal (pick t Less Greater) ≡ Less → (eqb i n ≡ false) × (ltb i n ≡ true)
       go true t q p e = let z : ◌≡◌ {A = ℕ} 0 1 = cc in absurd (omega arith)
       go false true q p e = (q, p)
       go false false q p e = let z : ◌≡◌ {A = ℕ} 0 1 = cc in absurd (omega arith)
 
-  number_more : number_order i n ≡ More → (eqb i n ≡ false) × (ltb i n ≡ false)
+  number_more : number_order i n ≡ Greater → (eqb i n ≡ false) × (ltb i n ≡ false)
   unfolding number_order
   number_more e = go (eqb i n) (ltb i n) refl refl e
     where
-      go : (s t : Bool) → eqb i n ≡ s → ltb i n ≡ t → pick s Same (pick t Less More) ≡ More → (eqb i n ≡ false) × (ltb i n ≡ false)
+      go : (s t : Bool) → eqb i n ≡ s → ltb i n ≡ t → pick s Equal (pick t Less Greater) ≡ Greater → (eqb i n ≡ false) × (ltb i n ≡ false)
       go true t q p e = let z : ◌≡◌ {A = ℕ} 0 1 = cc in absurd (omega arith)
       go false true q p e = let z : ◌≡◌ {A = ℕ} 0 1 = cc in absurd (omega arith)
       go false false q p e = (q, p)

@@ -28,8 +28,9 @@ use Rattle.table.proofs.Laid.{rec-long, laid-key, laid-value}
 use Rattle.table_read.specs.Find.{find_key, span_in, node_start, record_of}
 use Rattle.table_read.specs.declared.Place.{Place}
 use Rattle.table_read.specs.declared.Place.TheVariants.{At}
+use Rattle.std.specs.Prelude.{Option as Optional}
+use Rattle.std.specs.Prelude.{None, Some}
 use Rattle.table_read.specs.declared.Span.{Span}
-use Rattle.table_read.specs.declared.Span.TheVariants.{Held, Missing}
 use Rattle.table_read.proofs.Searched.{rec-in}
 use Rattle.table_read.proofs.Held.{node_end, node-fits, node_seen, held-laid, held-rises, held_start, held-node, missing-node}
 
@@ -39,8 +40,8 @@ use Rattle.table_read.proofs.Held.{node_end, node-fits, node_seen, held-laid, he
 abbrev lent_node : (start end : ℕ) (l : List ℕ) → List ℕ
 lent_node start end l = take (end - start) (drop start l)
 
-module _ (n : ℕ) (l : List ℕ) (v : valid l ≡ true) {s : Span} (f : s ≡ span_in n l) {start end : ℕ} (h : s ≡ Held start end) where
-  held : span_in n l ≡ Held start end
+module _ (n : ℕ) (l : List ℕ) (v : valid l ≡ true) {s : (Optional Span)} (f : s ≡ span_in n l) {start end : ℕ} (h : s ≡ (Some (record { start = start; end = end }))) where
+  held : span_in n l ≡ (Some (record { start = start; end = end }))
   held = sym f ∙ h
 
   pub lent-order : start ≤ end
@@ -74,29 +75,29 @@ module _ (n : ℕ) (l : List ℕ) (v : valid l ≡ true) {s : Span} (f : s ≡ s
 pub ruleset lent-node-needs = (lent-order, lent_fits, lent_below, lent_laid, lent-long, lent-count, lent-rises)
 
 -- what they say, by a rule that says it of the node that is held, or of none
-module _ {A : Type 0} (rule : Option Node → A) (n : ℕ) (l : List ℕ) (v : valid l ≡ true) {s : Span} (f : s ≡ span_in n l) where
-  pub node-says : {start end : ℕ} → s ≡ Held start end → (r : A) → r ≡ rule (some (decode_node (lent_node start end l)).node) → r ≡ rule (node_of n (decode l))
+module _ {A : Type 0} (rule : Option Node → A) (n : ℕ) (l : List ℕ) (v : valid l ≡ true) {s : (Optional Span)} (f : s ≡ span_in n l) where
+  pub node-says : {start end : ℕ} → s ≡ (Some (record { start = start; end = end })) → (r : A) → r ≡ rule (some (decode_node (lent_node start end l)).node) → r ≡ rule (node_of n (decode l))
   node-says h r p = p ∙ ap rule (lent-node n l v f h)
 
-  pub no-node-says : s ≡ Missing → rule none ≡ rule (node_of n (decode l))
+  pub no-node-says : s ≡ None → rule none ≡ rule (node_of n (decode l))
   no-node-says h = ap rule (sym (missing-node n l v (sym f ∙ h)))
 
 -- the same of a rule that is asked for something, and also says where the node stands
-module _ {A X : Type 0} (rule : X → ℕ → Option Node → A) (x : X) (n : ℕ) (l : List ℕ) (v : valid l ≡ true) {s : Span} (f : s ≡ span_in n l) where
-  pub node-stands : {start end : ℕ} → s ≡ Held start end → (r : A) → r ≡ rule x start (some (decode_node (lent_node start end l)).node)
+module _ {A X : Type 0} (rule : X → ℕ → Option Node → A) (x : X) (n : ℕ) (l : List ℕ) (v : valid l ≡ true) {s : (Optional Span)} (f : s ≡ span_in n l) where
+  pub node-stands : {start end : ℕ} → s ≡ (Some (record { start = start; end = end })) → (r : A) → r ≡ rule x start (some (decode_node (lent_node start end l)).node)
       → r ≡ rule x (node_start n (decode l)) (node_of n (decode l))
   node-stands {start} h r p = p ∙ ap (rule x start) (lent-node n l v f h) ∙ ap (λ (k : ℕ). rule x k (node_of n (decode l))) (lent-start n l v f h)
 
-  pub no-node-stands : s ≡ Missing → rule x (node_start n (decode l)) none ≡ rule x (node_start n (decode l)) (node_of n (decode l))
+  pub no-node-stands : s ≡ None → rule x (node_start n (decode l)) none ≡ rule x (node_start n (decode l)) (node_of n (decode l))
   no-node-stands h = no-node-says (rule x (node_start n (decode l))) n l v f h
 
 -- and what is given of a lent list
-module _ {A M : Type 0} (rule : Option Node → Given A M) (n : ℕ) (l : List ℕ) (v : valid l ≡ true) {s : Span} (f : s ≡ span_in n l) where
-  pub node-fills : {start end : ℕ} → s ≡ Held start end → (a : A) (m : M) → Gives (rule (some (decode_node (lent_node start end l)).node)) a m
+module _ {A M : Type 0} (rule : Option Node → Given A M) (n : ℕ) (l : List ℕ) (v : valid l ≡ true) {s : (Optional Span)} (f : s ≡ span_in n l) where
+  pub node-fills : {start end : ℕ} → s ≡ (Some (record { start = start; end = end })) → (a : A) (m : M) → Gives (rule (some (decode_node (lent_node start end l)).node)) a m
       → Gives (rule (node_of n (decode l))) a m
   node-fills h a m p = subst (λ (o : Option Node). Gives (rule o) a m) (lent-node n l v f h) p
 
-  pub no-node-fills : s ≡ Missing → Gives (rule (node_of n (decode l))) (rule none).answer (rule none).lent
+  pub no-node-fills : s ≡ None → Gives (rule (node_of n (decode l))) (rule none).answer (rule none).lent
   no-node-fills h = subst (λ (o : Option Node). Gives (rule o) (rule none).answer (rule none).lent) (sym (missing-node n l v (sym f ∙ h))) (refl, refl)
 
 -- ---- the key

@@ -12,8 +12,8 @@ use lib.Dec.{eqb, ltb}
 use borrow.Author.Tests.{ltb-true}
 use Rattle.fields.specs.Choice.{pick, ◌∈◌, here, later}
 use Rattle.fields.specs.Order.{same_bytes, less_bytes, order_of}
-use Rattle.fields.specs.declared.Order.{Order}
-use Rattle.fields.specs.declared.Order.TheVariants.{Less, Same, More}
+use Rattle.std.specs.declared.cmp.Ordering.{Ordering}
+use Rattle.std.specs.declared.cmp.Ordering.TheVariants.{Less, Equal, Greater}
 use Rattle.fields.proofs.Choice.{in-at}
 use Rattle.fields.proofs.Ordered.{less-trans, less-order, order-less}
 use Rattle.rules.specs.Node.{Rec, find}
@@ -39,18 +39,18 @@ free-not-at e = let z : ◌≡◌ {A = ℕ} 0 1 = cc in absurd (omega arith)
 at-not-free : {X : Type 0} {i j : ℕ} → At i ≡ Free j → X
 at-not-free e = let z : ◌≡◌ {A = ℕ} 0 1 = cc in absurd (omega arith)
 
-abbrev is_same : Order → Bool
+abbrev is_same : Ordering → Bool
 is_same Less = false
-is_same Same = true
-is_same More = false
+is_same Equal = true
+is_same Greater = false
 
 -- what stands before one that comes too late comes too late
-unfoldable pub Ordered : {A : Type 0} → (A → Order) → List A → Type 0
+unfoldable pub Ordered : {A : Type 0} → (A → Ordering) → List A → Type 0
 Ordered g [] = Unit {0}
 Ordered {A} g (a ∷ l) = (g a ≡ Less → (x : A) → x ∈ l → g x ≡ Less) × Ordered g l
 
 -- a place that is found is one of the list's
-pub place-in : {A : Type 0} (g : A → Order) (l : List A) (j : ℕ) → find_by g l ≡ At j → j < length l
+pub place-in : {A : Type 0} (g : A → Ordering) (l : List A) (j : ℕ) → find_by g l ≡ At j → j < length l
 unfolding find_by
 place-in g [] j e = free-not-at e
 place-in {A} g (a ∷ l) j e = go (g a) e (place-in g l)
@@ -59,15 +59,15 @@ place-in {A} g (a ∷ l) j e = go (g a) e (place-in g l)
     next (At m) q e ih = let z : 1 + m ≡ j = cc in omega (arith, ih m q)
     next (Free m) q e ih = free-not-at e
 
-    go : (o : Order) → seek o (find_by g l) ≡ At j → ((m : ℕ) → find_by g l ≡ At m → m < length l) → j < suc (length l)
+    go : (o : Ordering) → seek o (find_by g l) ≡ At j → ((m : ℕ) → find_by g l ≡ At m → m < length l) → j < suc (length l)
     go Less e ih = free-not-at e
-    go Same e ih = let z : 0 ≡ j = cc in omega arith
-    go More e ih = next (find_by g l) refl e ih
+    go Equal e ih = let z : 0 ≡ j = cc in omega arith
+    go Greater e ih = next (find_by g l) refl e ih
 
 -- S takes f of the first that passes p, with its place from i on, and z where none does
-module _ {A B : Type 0} (g : A → Order) (p : A → Bool) (hit : (a : A) → p a ≡ is_same (g a)) (f : ℕ → A → B) (z : B) (S : ℕ → List A → B)
+module _ {A B : Type 0} (g : A → Ordering) (p : A → Bool) (hit : (a : A) → p a ≡ is_same (g a)) (f : ℕ → A → B) (z : B) (S : ℕ → List A → B)
     (nil : (i : ℕ) → S i [] ≡ z) (cons : (i : ℕ) (a : A) (l : List A) → S i (a ∷ l) ≡ pick (p a) (f i a) (S (suc i) l)) where
-  by : (i : ℕ) (a : A) (l : List A) (o : Order) → g a ≡ o → S i (a ∷ l) ≡ pick (is_same o) (f i a) (S (suc i) l)
+  by : (i : ℕ) (a : A) (l : List A) (o : Ordering) → g a ≡ o → S i (a ∷ l) ≡ pick (is_same o) (f i a) (S (suc i) l)
   by i a l o q = cons i a l ∙ ap (λ (t : Bool). pick t (f i a) (S (suc i) l)) (hit a ∙ ap is_same q)
 
   pub search-at : (l : List A) (d : A) (i j : ℕ) → find_by g l ≡ At j → S i l ≡ f (i + j) (get_or l j d)
@@ -75,24 +75,24 @@ module _ {A B : Type 0} (g : A → Order) (p : A → Bool) (hit : (a : A) → p 
   search-at [] d i j e = free-not-at e
   search-at (a ∷ l) d i j e = go (g a) refl e (search-at l d (suc i))
     where
-      next : g a ≡ More → (r : Place) → find_by g l ≡ r → further 1 r ≡ At j → ((m : ℕ) → find_by g l ≡ At m → S (suc i) l ≡ f (suc i + m) (get_or l m d))
+      next : g a ≡ Greater → (r : Place) → find_by g l ≡ r → further 1 r ≡ At j → ((m : ℕ) → find_by g l ≡ At m → S (suc i) l ≡ f (suc i + m) (get_or l m d))
           → S i (a ∷ l) ≡ f (i + j) (get_or (a ∷ l) j d)
       next q (At m) h e ih =
           let y : 1 + m ≡ j = cc in
           let s : j ≡ suc m = omega arith in
           let t : suc i + m ≡ i + suc m = omega arith in
-          by i a l More q ∙ ih m h ∙ rw (s, t) refl
+          by i a l Greater q ∙ ih m h ∙ rw (s, t) refl
       next q (Free m) h e ih = free-not-at e
 
-      go : (o : Order) → g a ≡ o → seek o (find_by g l) ≡ At j → ((m : ℕ) → find_by g l ≡ At m → S (suc i) l ≡ f (suc i + m) (get_or l m d))
+      go : (o : Ordering) → g a ≡ o → seek o (find_by g l) ≡ At j → ((m : ℕ) → find_by g l ≡ At m → S (suc i) l ≡ f (suc i + m) (get_or l m d))
           → S i (a ∷ l) ≡ f (i + j) (get_or (a ∷ l) j d)
       go Less q e ih = free-not-at e
-      go Same q e ih =
+      go Equal q e ih =
           let y : 0 ≡ j = cc in
           let s : j ≡ 0 = omega arith in
           let t : i + 0 ≡ i = omega arith in
-          by i a l Same q ∙ rw (s, t) refl
-      go More q e ih = next q (find_by g l) refl e ih
+          by i a l Equal q ∙ rw (s, t) refl
+      go Greater q e ih = next q (find_by g l) refl e ih
 
   none_passes : (l : List A) (i : ℕ) → ((x : A) → x ∈ l → g x ≡ Less) → S i l ≡ z
   none_passes [] i h = nil i
@@ -103,18 +103,18 @@ module _ {A B : Type 0} (g : A → Order) (p : A → Bool) (hit : (a : A) → p 
   search-free [] i j s e = nil i
   search-free (a ∷ l) i j s e = go (g a) refl e (λ m. search-free l (suc i) m s.1)
     where
-      next : g a ≡ More → (r : Place) → find_by g l ≡ r → further 1 r ≡ Free j → ((m : ℕ) → find_by g l ≡ Free m → S (suc i) l ≡ z) → S i (a ∷ l) ≡ z
+      next : g a ≡ Greater → (r : Place) → find_by g l ≡ r → further 1 r ≡ Free j → ((m : ℕ) → find_by g l ≡ Free m → S (suc i) l ≡ z) → S i (a ∷ l) ≡ z
       next q (At m) h e ih = at-not-free e
-      next q (Free m) h e ih = by i a l More q ∙ ih m h
+      next q (Free m) h e ih = by i a l Greater q ∙ ih m h
 
-      go : (o : Order) → g a ≡ o → seek o (find_by g l) ≡ Free j → ((m : ℕ) → find_by g l ≡ Free m → S (suc i) l ≡ z) → S i (a ∷ l) ≡ z
+      go : (o : Ordering) → g a ≡ o → seek o (find_by g l) ≡ Free j → ((m : ℕ) → find_by g l ≡ Free m → S (suc i) l ≡ z) → S i (a ∷ l) ≡ z
       go Less q e ih = by i a l Less q ∙ none_passes l (suc i) (s.0 q)
-      go Same q e ih = at-not-free e
-      go More q e ih = next q (find_by g l) refl e ih
+      go Equal q e ih = at-not-free e
+      go Greater q e ih = next q (find_by g l) refl e ih
 
 -- ---- nodes by number, records by key
 
-shape : (s t : Bool) → s ≡ is_same (pick s Same (pick t Less More))
+shape : (s t : Bool) → s ≡ is_same (pick s Equal (pick t Less Greater))
 shape true t = refl
 shape false true = refl
 shape false false = refl
@@ -131,7 +131,7 @@ less-number : (i n : ℕ) → number_order i n ≡ Less → i < n
 unfolding number_order
 less-number i n e = go (eqb i n) (ltb i n) refl e
   where
-    go : (s t : Bool) → ltb i n ≡ t → pick s Same (pick t Less More) ≡ Less → i < n
+    go : (s t : Bool) → ltb i n ≡ t → pick s Equal (pick t Less Greater) ≡ Less → i < n
     go true t q e = let z : ◌≡◌ {A = ℕ} 0 1 = cc in absurd (omega arith)
     go false true q e = ltb-true i n q
     go false false q e = let z : ◌≡◌ {A = ℕ} 0 1 = cc in absurd (omega arith)

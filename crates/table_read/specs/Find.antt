@@ -4,16 +4,16 @@ use Rattle.std.specs.Prelude.{ℕ, ◌+◌, List, [], ◌∷◌, length, get_or,
 use Rattle.fields.specs.Numbers.{Bytes}
 use Rattle.fields.specs.Choice.{pick}
 use Rattle.fields.specs.Order.{order_of}
-use Rattle.fields.specs.declared.Order.{Order}
-use Rattle.fields.specs.declared.Order.TheVariants.{Less, Same, More}
+use Rattle.std.specs.declared.cmp.Ordering.{Ordering}
+use Rattle.std.specs.declared.cmp.Ordering.TheVariants.{Less, Equal, Greater}
 use Rattle.rules.specs.Node.{Rec, Node}
 use Rattle.rules.specs.Table.{Entry, Table}
 use Rattle.rules.specs.declared.Header.{Header}
 use Rattle.rules.specs.declared.Record.{Record}
 use Rattle.rules.specs.Layout.{node_width, node_place, decode}
 use Rattle.table.specs.Changes.{fresh_entry}
+use Rattle.std.specs.Prelude.{None, Option, Some}
 use Rattle.table_read.specs.declared.Span.{Span}
-use Rattle.table_read.specs.declared.Span.TheVariants.{Held, Missing}
 use Rattle.table_read.specs.declared.Place.{Place}
 use Rattle.table_read.specs.declared.Place.TheVariants.{At, Free}
 
@@ -23,24 +23,24 @@ further n (At i) = At (n + i)
 further n (Free i) = Free (n + i)
 
 -- by how the sought stands to the first, with the place among the others
-abbrev pub seek : (order : Order) (place : Place) → Place
+abbrev pub seek : (order : Ordering) (place : Place) → Place
 seek Less p = Free 0
-seek Same p = At 0
-seek More p = further 1 p
+seek Equal p = At 0
+seek Greater p = further 1 p
 
 -- by how the sought stands to each
-unfoldable pub find_by : {A : Type 0} (stands : A → Order) (list : List A) → Place
+unfoldable pub find_by : {A : Type 0} (stands : A → Ordering) (list : List A) → Place
 find_by f [] = Free 0
 find_by f (a ∷ l) = seek (f a) (find_by f l)
 
 -- how the first number stands to the second
-unfoldable pub number_order : (sought number : ℕ) → Order
-number_order i n = pick (eqb i n) Same (pick (ltb i n) Less More)
+unfoldable pub number_order : (sought number : ℕ) → Ordering
+number_order i n = pick (eqb i n) Equal (pick (ltb i n) Less Greater)
 
-abbrev pub to_node : (number : ℕ) (entry : Entry) → Order
+abbrev pub to_node : (number : ℕ) (entry : Entry) → Ordering
 to_node i e = number_order i e.number
 
-abbrev pub to_key : (key : Bytes) (rec : Rec) → Order
+abbrev pub to_key : (key : Bytes) (rec : Rec) → Ordering
 to_key k r = order_of k r.kv.key
 
 abbrev pub find_node : (number : ℕ) (table : Table) → Place
@@ -50,12 +50,12 @@ abbrev pub find_key : (key : Bytes) (recs : List Rec) → Place
 find_key k l = find_by (to_key k) l
 
 -- where the bytes of the node at a place stand in a table's
-abbrev pub span_of : (place : Place) → Span
-span_of (At i) = Held (node_place i) (node_place i + node_width)
-span_of (Free i) = Missing
+abbrev pub span_of : (place : Place) → (Option Span)
+span_of (At i) = (Some (record { start = (node_place i); end = (node_place i + node_width) }))
+span_of (Free i) = None
 
 -- where those of the node with this number stand
-abbrev pub span_in : (number : ℕ) (table : Bytes) → Span
+abbrev pub span_in : (number : ℕ) (table : Bytes) → (Option Span)
 span_in number table = span_of (find_node number (decode table))
 
 -- the node at a place, under its number

@@ -10,6 +10,7 @@ ghost use Rattle.table.specs.Fits.{LaidNode};
 ghost use Rattle.table_read.specs.Find.{find_node, find_key, span_in, entry_at, header_of, record_of};
 
 use rules::{Header, Heartbeat, Record, Status};
+use std::cmp::Ordering;
 use table::layout;
 
 // Where something stands, or the place in the order where it belongs.
@@ -19,11 +20,11 @@ pub enum Place {
     Free(usize),
 }
 
-// Where the bytes of a node stand in a table's, from `start` up to `end`, or that the table has no such node.
+// Where the bytes of a node stand in a table's: from `start` up to `end`.
 #[derive(Clone, Copy)]
-pub enum Span {
-    Held { start: usize, end: usize },
-    Missing,
+pub struct Span {
+    pub start: usize,
+    pub end: usize,
 }
 
 // What a record's bytes say beside its key and value.
@@ -84,8 +85,7 @@ pub fn find_node(table: &[u8], number: u64) -> Place
     ensures { result ≡ find_node number (decode table.now) }
 {
     let n = fields::byte_at(table, layout::NODE_COUNT);
-    let mut i = 0;
-    while i < n {
+    for i in 0..n {
         let x = fields::read_u64(table, table::node_place(i));
         if number == x {
             return Place::At(i);
@@ -93,25 +93,24 @@ pub fn find_node(table: &[u8], number: u64) -> Place
         if number < x {
             return Place::Free(i);
         }
-        i += 1;
     }
-    Place::Free(i)
+    Place::Free(n)
 }
 
 // Where the bytes of the node with this number stand in a good table.
-pub fn node_span(table: &[u8], number: u64) -> Span
+pub fn node_span(table: &[u8], number: u64) -> Option<Span>
     requires { valid table.now ≡ true }
     ensures { result ≡ span_in number table.now }
 {
     match find_node(table, number) {
         Place::At(i) => {
             let start = table::node_place(i);
-            Span::Held {
+            Some(Span {
                 start,
                 end: start + layout::NODE,
-            }
+            })
         }
-        Place::Free(_) => Span::Missing,
+        Place::Free(_) => None,
     }
 }
 
@@ -125,9 +124,9 @@ pub fn search_key(node: &[u8], key: &[u8]) -> Place
     while low < high {
         let j = (low + high) / 2;
         match fields::compare(key, table::key_of(table::record_of(node, j))) {
-            fields::Order::Same => return Place::At(j),
-            fields::Order::Less => high = j,
-            fields::Order::More => low = j + 1,
+            Ordering::Equal => return Place::At(j),
+            Ordering::Less => high = j,
+            Ordering::Greater => low = j + 1,
         }
     }
     Place::Free(low)
@@ -137,12 +136,5 @@ pub fn search_key(node: &[u8], key: &[u8]) -> Place
 pub fn is_excluded(excluded: &[u64], number: u64) -> bool
     ensures { result ≡ among number excluded.now }
 {
-    let mut i = 0;
-    while i < excluded.len() {
-        if number == excluded[i] {
-            return true;
-        }
-        i += 1;
-    }
-    false
+    excluded.contains(&number)
 }

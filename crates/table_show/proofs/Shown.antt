@@ -18,7 +18,7 @@ use Rattle.rules.specs.Sizes.{max_nodes, max_removed}
 use Rattle.rules.specs.Whole.{area_of, decode_memory, decode_whole, mode_of_byte, profile_of_byte, tail_of, tail_width, valid_whole, whole_width}
 use Rattle.rules.specs.declared.Refusal.{Refusal}
 use Rattle.rules.specs.declared.Refusal.TheVariants.{NoPlace}
-use Rattle.rules.specs.declared.Written.TheVariants as written
+use Rattle.std.specs.Prelude.{Err, Ok}
 use Rattle.rules.proofs.Memories.{whole-memory, whole-table}
 use Rattle.table.specs.Fits.{LaidTable}
 use Rattle.table.specs.Tests.{mode_in, nodes_of, profile_in, removed_in}
@@ -64,10 +64,10 @@ nothing_put [] l e = refl
 nothing_put (b ∷ s) l e = absurd (omega (arith, e))
 
 module _ (text l s m : Bytes) (n : ℕ) (p : n ≡ 0 + length text) (e : length s ≡ length (take 0 l)) where
-  pub too_long : length (s ++ drop 0 l) < n → Gives (write_bytes text 0 l) (written.Refused NoPlace) (s ++ drop 0 l)
-  too_long h = let q = nothing_put s l e in subst (λ (x : Bytes). Gives (write_bytes text 0 l) (written.Refused NoPlace) x) (sym q) (front-none text l (omega (arith, ap length q)))
+  pub too_long : length (s ++ drop 0 l) < n → Gives (write_bytes text 0 l) (Err NoPlace) (s ++ drop 0 l)
+  too_long h = let q = nothing_put s l e in subst (λ (x : Bytes). Gives (write_bytes text 0 l) (Err NoPlace) x) (sym q) (front-none text l (omega (arith, ap length q)))
 
-  pub has_room : n ≤ length (s ++ drop 0 l) → (r : ℕ) → Put 0 text (s ++ drop 0 l) m r → Gives (write_bytes text 0 l) (written.Bytes n) m
+  pub has_room : n ≤ length (s ++ drop 0 l) → (r : ℕ) → Put 0 text (s ++ drop 0 l) m r → Gives (write_bytes text 0 l) (Ok n) m
   has_room h r w =
       let q = nothing_put s l e in
       let fits : length text ≤ length l = omega (arith, ap length q) in
@@ -106,18 +106,18 @@ listing-most l = go (valid_whole l) refl
 
 -- so a buffer of that size is never refused, and the answer is within it
 module _ (l out : Bytes) (h : longest_listing ≤ length out) where
-  answered : (list_table l out).answer ≡ written.Bytes (length (table_listing l))
+  answered : (list_table l out).answer ≡ Ok (length (table_listing l))
   answered =
       let most = listing-most l in
       rw (le-leb 0 (length out) (omega arith), le-leb (length (table_listing l)) (length out - 0) (omega arith))
 
-  pub shown-fits : (r : Refusal) → (list_table l out).answer ≡ written.Refused r → ⊥
+  pub shown-fits : (r : Refusal) → (list_table l out).answer ≡ Err r → ⊥
   shown-fits r e =
       let f = sym answered ∙ e in
       let z : ◌≡◌ {A = ℕ} 0 1 = cc in
       omega arith
 
-  pub shown-within : (k : ℕ) → (list_table l out).answer ≡ written.Bytes k → k ≤ length out
+  pub shown-within : (k : ℕ) → (list_table l out).answer ≡ Ok k → k ≤ length out
   shown-within k e =
       let f = sym answered ∙ e in
       let g : length (table_listing l) ≡ k = cc in

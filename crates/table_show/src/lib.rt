@@ -13,7 +13,7 @@ ghost use Rattle.table.specs.Fits.{LaidTable};
 ghost use Rattle.listing_room.specs.Room.{Ends, put_within};
 ghost use Rattle.table_listing.specs.TableListing.{behind_nodes, list_table, table_listing, whole_text};
 
-use rules::{Header, Refusal, Written, sizes};
+use rules::{Header, Refusal, sizes};
 use table::layout;
 
 // The most bytes of each line.
@@ -68,13 +68,13 @@ fn put_listing(out: &mut [u8], table: &[u8]) -> usize
 }
 
 // The listing of any bytes, at the front of the buffer, and its length. 8, and nothing changed, where the buffer is too short.
-pub fn list_table(table: &[u8], out: &mut [u8]) -> Written
+pub fn list_table(table: &[u8], out: &mut [u8]) -> Result<usize, Refusal>
     ensures { Tells written_told (list_table table.now out.old) result out.new }
 {
     let n = put_listing(&mut out[..0], table);
     if out.len() < n {
-        return Written::Refused(Refusal::NoPlace);
+        return Err(Refusal::NoPlace);
     }
     put_listing(out, table);
-    Written::Bytes(n)
+    Ok(n)
 }

@@ -18,15 +18,12 @@ fn first_bad(area: &[u8], n: usize) -> usize
     requires { (length area.now ≡ table_width) × (n ≤ max_nodes) }
     ensures { result ≡ first_bad n (drop (node_place 0) area.now) }
 {
-    let mut i = 0;
-    while i < n {
-        if table_check::check_node(table::node_of(area, i)) {
-            i += 1;
-        } else {
+    for i in 0..n {
+        if !table_check::check_node(table::node_of(area, i)) {
             return i;
         }
     }
-    i
+    n
 }
 
 // The line with a name and a number.

@@ -19,10 +19,8 @@ fn removed_numbers(tail: &[u8], n: usize) -> [u64; sizes::REMOVED]
     ensures { (length result ≡ max_removed) × (take n result ≡ removed_numbers (decode_memory tail.now)) }
 {
     let mut ns = [0u64; sizes::REMOVED];
-    let mut i = 0;
-    while i < n {
+    for i in 0..n {
         ns[i] = fields::read_u64(tail, table::removed_place(i) + layout::REMOVED_NUMBER);
-        i += 1;
     }
     ns
 }
@@ -33,13 +31,11 @@ fn none_held(area: &[u8], ns: &[u64], n: usize) -> bool
     ensures { result ≡ apart (numbers_of (decode area.now)) (take n ns.now) }
 {
     let m = fields::byte_at(area, layout::NODE_COUNT);
-    let mut i = 0;
-    while i < m {
+    for i in 0..m {
         let x = fields::read_u64(area, table::node_place(i));
         if numbers_differ::stands_from(ns, 0, n, x) {
             return false;
         }
-        i += 1;
     }
     true
 }

@@ -3,17 +3,18 @@ use Prim.Native.Nat.{ℕ}
 use mathlib.Core.Path.{ap, sym, ◌∙◌}
 use mathlib.Core.List.{[]}
 use Rattle.rules.specs.Answers.{written_told}
-use Rattle.rules.specs.declared.Written.{Written}
+use Rattle.std.specs.Prelude.{Result}
+use Rattle.rules.specs.declared.Refusal.{Refusal}
 use Rattle.answers.specs.Shown.{count_shown}
 use Rattle.answers.proofs.bytes.Goals as goal
 
-pub returns-in-Bytes : goal.returns-in-Bytes
+pub returns-in-Ok : goal.returns-in-Ok
 unfolding written_told
-returns-in-Bytes c =
-    sym (ap (λ (a : Written). count_shown (written_told a)) c.in-Bytes.is)
+returns-in-Ok c =
+    sym (ap (λ (a : (Result ℕ Refusal)). count_shown (written_told a)) c.in-Ok.is)
 
-pub returns-in-Refused : goal.returns-in-Refused
+pub returns-in-Err : goal.returns-in-Err
 unfolding written_told
-returns-in-Refused c =
+returns-in-Err c =
     ap (λ (k : ℕ). count_shown (record { number = k; values = []; need = 0 })) c.number.ensures
-    ∙ sym (ap (λ (a : Written). count_shown (written_told a)) c.in-Refused.is)
+    ∙ sym (ap (λ (a : (Result ℕ Refusal)). count_shown (written_told a)) c.in-Err.is)

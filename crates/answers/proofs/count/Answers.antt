@@ -3,17 +3,18 @@ use Prim.Native.Nat.{ℕ}
 use mathlib.Core.Path.{ap, sym, ◌∙◌}
 use mathlib.Core.List.{[]}
 use Rattle.inspect.specs.Told.{count_told}
-use Rattle.inspect.specs.declared.Count.{Count}
+use Rattle.std.specs.Prelude.{Result}
+use Rattle.rules.specs.declared.Refusal.{Refusal}
 use Rattle.answers.specs.Shown.{count_shown}
 use Rattle.answers.proofs.count.Goals as goal
 
-pub returns-in-Are : goal.returns-in-Are
+pub returns-in-Ok : goal.returns-in-Ok
 unfolding count_told
-returns-in-Are c =
-    sym (ap (λ (a : Count). count_shown (count_told a)) c.in-Are.is)
+returns-in-Ok c =
+    sym (ap (λ (a : (Result ℕ Refusal)). count_shown (count_told a)) c.in-Ok.is)
 
-pub returns-in-Refused : goal.returns-in-Refused
+pub returns-in-Err : goal.returns-in-Err
 unfolding count_told
-returns-in-Refused c =
+returns-in-Err c =
     ap (λ (k : ℕ). count_shown (record { number = k; values = []; need = 0 })) c.number.ensures
-    ∙ sym (ap (λ (a : Count). count_shown (count_told a)) c.in-Refused.is)
+    ∙ sym (ap (λ (a : (Result ℕ Refusal)). count_shown (count_told a)) c.in-Err.is)

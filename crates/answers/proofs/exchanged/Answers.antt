@@ -2,19 +2,21 @@
 use Prim.Native.Nat.{ℕ}
 use mathlib.Core.Path.{ap, ap₂, sym, ◌∙◌}
 use Rattle.exchange.specs.Exchanging.{exchanged_told}
+use Rattle.std.specs.Prelude.{Result}
 use Rattle.exchange.specs.declared.Exchanged.{Exchanged}
+use Rattle.exchange_ask.specs.declared.Stopped.{Stopped}
 use Rattle.answers.specs.Shown.{exchanged_shown}
 use Rattle.answers.proofs.Shown.{exchanged-refused}
 use Rattle.answers.proofs.exchanged.Goals as goal
 
-pub returns-in-Done : goal.returns-in-Done
+pub returns-in-Ok : goal.returns-in-Ok
 unfolding exchanged_told
-returns-in-Done c =
-    sym (ap (λ (a : Exchanged). exchanged_shown (exchanged_told a)) c.in-Done.is)
+returns-in-Ok c =
+    sym (ap (λ (a : (Result Exchanged Stopped)). exchanged_shown (exchanged_told a)) c.in-Ok.is)
 
-pub returns-in-Refused : goal.returns-in-Refused
+pub returns-in-Err : goal.returns-in-Err
 unfolding exchanged_told
-returns-in-Refused c =
+returns-in-Err c =
     ap₂ (λ (k s : ℕ). record { number = k; ops = 0; bytes = 0; nodes = 0; step = s }) c.number.ensures c.step_code.ensures
-    ∙ exchanged-refused c.in-Refused.step c.in-Refused.why
-    ∙ sym (ap (λ (a : Exchanged). exchanged_shown (exchanged_told a)) c.in-Refused.is)
+    ∙ exchanged-refused c.in-Err.field-0.step c.in-Err.field-0.why
+    ∙ sym (ap (λ (a : (Result Exchanged Stopped)). exchanged_shown (exchanged_told a)) c.in-Err.is)

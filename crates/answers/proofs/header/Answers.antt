@@ -3,17 +3,19 @@ use Prim.Native.Nat.{ℕ}
 use mathlib.Core.Path.{ap, sym, ◌∙◌}
 use mathlib.Core.List.{[]}
 use Rattle.inspect.specs.Told.{node_header_told}
-use Rattle.inspect.specs.declared.NodeHeader.{NodeHeader}
+use Rattle.std.specs.Prelude.{Result}
+use Rattle.rules.specs.declared.Header.{Header}
+use Rattle.rules.specs.declared.Refusal.{Refusal}
 use Rattle.answers.specs.Shown.{header_shown}
 use Rattle.answers.proofs.header.Goals as goal
 
-pub returns-in-Is : goal.returns-in-Is
+pub returns-in-Ok : goal.returns-in-Ok
 unfolding node_header_told
-returns-in-Is c =
-    sym (ap (λ (a : NodeHeader). header_shown (node_header_told a)) c.in-Is.is)
+returns-in-Ok c =
+    sym (ap (λ (a : (Result Header Refusal)). header_shown (node_header_told a)) c.in-Ok.is)
 
-pub returns-in-Refused : goal.returns-in-Refused
+pub returns-in-Err : goal.returns-in-Err
 unfolding node_header_told
-returns-in-Refused c =
+returns-in-Err c =
     ap (λ (k : ℕ). header_shown (record { number = k; values = []; need = 0 })) c.number.ensures
-    ∙ sym (ap (λ (a : NodeHeader). header_shown (node_header_told a)) c.in-Refused.is)
+    ∙ sym (ap (λ (a : (Result Header Refusal)). header_shown (node_header_told a)) c.in-Err.is)

@@ -1,24 +1,28 @@
 -- `answers::heartbeat` meets its contract, case by case. Assumes nothing.
 use Prim.Native.Nat.{ℕ}
-use mathlib.Core.Path.{ap, sym, ◌∙◌}
+use mathlib.Core.Path.{◌≡◌, ap, sym, ◌∙◌}
 use mathlib.Core.List.{[]}
 use Rattle.rules.specs.Answers.{remembered_told}
-use Rattle.rules.specs.declared.Remembered.{Remembered}
+use Rattle.std.specs.Prelude.{None, Ok, Option, Result, Some}
+use Rattle.rules.specs.declared.Heartbeat.{Heartbeat}
+use Rattle.rules.specs.declared.Refusal.{Refusal}
 use Rattle.answers.specs.Shown.{heartbeat_shown}
 use Rattle.answers.proofs.heartbeat.Goals as goal
 
-pub returns-in-With : goal.returns-in-With
+pub returns-in-Ok-Some : goal.returns-in-Ok-Some
 unfolding remembered_told
-returns-in-With c =
-    sym (ap (λ (a : Remembered). heartbeat_shown (remembered_told a)) c.in-With.is)
+returns-in-Ok-Some c =
+    let f : c.in-Ok-Some.field-0 ≡ Some c.in-Ok-Some.beats = rw c.in-Ok-Some.is at c.in-Ok-Some.field-0-is in
+    sym (ap (λ (a : (Result (Option Heartbeat) Refusal)). heartbeat_shown (remembered_told a)) (c.in-Ok-Some.is ∙ ap Ok f))
 
-pub returns-in-Not : goal.returns-in-Not
+pub returns-in-Ok-None : goal.returns-in-Ok-None
 unfolding remembered_told
-returns-in-Not c =
-    sym (ap (λ (a : Remembered). heartbeat_shown (remembered_told a)) c.in-Not.is)
+returns-in-Ok-None c =
+    let f : c.in-Ok-None.field-0 ≡ None = rw c.in-Ok-None.is at c.in-Ok-None.field-0-is in
+    sym (ap (λ (a : (Result (Option Heartbeat) Refusal)). heartbeat_shown (remembered_told a)) (c.in-Ok-None.is ∙ ap Ok f))
 
-pub returns-in-Refused : goal.returns-in-Refused
+pub returns-in-Err : goal.returns-in-Err
 unfolding remembered_told
-returns-in-Refused c =
+returns-in-Err c =
     ap (λ (k : ℕ). heartbeat_shown (record { number = k; values = []; need = 0 })) c.number.ensures
-    ∙ sym (ap (λ (a : Remembered). heartbeat_shown (remembered_told a)) c.in-Refused.is)
+    ∙ sym (ap (λ (a : (Result (Option Heartbeat) Refusal)). heartbeat_shown (remembered_told a)) c.in-Err.is)

@@ -3,17 +3,18 @@ use Prim.Native.Nat.{ℕ}
 use mathlib.Core.Path.{ap, sym, ◌∙◌}
 use mathlib.Core.List.{[]}
 use Rattle.inspect.specs.Told.{node_number_told}
-use Rattle.inspect.specs.declared.NodeNumber.{NodeNumber}
+use Rattle.std.specs.Prelude.{Result}
+use Rattle.rules.specs.declared.Refusal.{Refusal}
 use Rattle.answers.specs.Shown.{node_shown}
 use Rattle.answers.proofs.node.Goals as goal
 
-pub returns-in-Is : goal.returns-in-Is
+pub returns-in-Ok : goal.returns-in-Ok
 unfolding node_number_told
-returns-in-Is c =
-    sym (ap (λ (a : NodeNumber). node_shown (node_number_told a)) c.in-Is.is)
+returns-in-Ok c =
+    sym (ap (λ (a : (Result ℕ Refusal)). node_shown (node_number_told a)) c.in-Ok.is)
 
-pub returns-in-Refused : goal.returns-in-Refused
+pub returns-in-Err : goal.returns-in-Err
 unfolding node_number_told
-returns-in-Refused c =
+returns-in-Err c =
     ap (λ (k : ℕ). node_shown (record { number = k; values = []; need = 0 })) c.number.ensures
-    ∙ sym (ap (λ (a : NodeNumber). node_shown (node_number_told a)) c.in-Refused.is)
+    ∙ sym (ap (λ (a : (Result ℕ Refusal)). node_shown (node_number_told a)) c.in-Err.is)

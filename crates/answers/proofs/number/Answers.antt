@@ -3,17 +3,18 @@ use Prim.Native.Nat.{ℕ}
 use mathlib.Core.Path.{ap, sym, ◌∙◌}
 use mathlib.Core.List.{[]}
 use Rattle.rules.specs.Answers.{answer_told}
-use Rattle.rules.specs.declared.Answer.{Answer}
+use Rattle.std.specs.Prelude.{Result}
+use Rattle.rules.specs.declared.Refusal.{Refusal}
 use Rattle.answers.specs.Shown.{number_shown}
 use Rattle.answers.proofs.number.Goals as goal
 
-pub returns-in-Done : goal.returns-in-Done
+pub returns-in-Ok : goal.returns-in-Ok
 unfolding answer_told
-returns-in-Done c =
-    sym (ap (λ (a : Answer). number_shown (answer_told a)) c.in-Done.is)
+returns-in-Ok c =
+    sym (ap (λ (a : (Result (Unit {0}) Refusal)). number_shown (answer_told a)) c.in-Ok.is)
 
-pub returns-in-Refused : goal.returns-in-Refused
+pub returns-in-Err : goal.returns-in-Err
 unfolding answer_told
-returns-in-Refused c =
+returns-in-Err c =
     ap (λ (k : ℕ). number_shown (record { number = k; values = []; need = 0 })) c.number.ensures
-    ∙ sym (ap (λ (a : Answer). number_shown (answer_told a)) c.in-Refused.is)
+    ∙ sym (ap (λ (a : (Result (Unit {0}) Refusal)). number_shown (answer_told a)) c.in-Err.is)

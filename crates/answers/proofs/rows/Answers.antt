@@ -3,17 +3,19 @@ use Prim.Native.Nat.{ℕ}
 use mathlib.Core.Path.{ap, sym, ◌∙◌}
 use mathlib.Core.List.{[]}
 use Rattle.inspect.specs.Told.{rows_told}
+use Rattle.std.specs.Prelude.{Result}
 use Rattle.inspect.specs.declared.Rows.{Rows}
+use Rattle.rules.specs.declared.Refusal.{Refusal}
 use Rattle.answers.specs.Shown.{rows_shown}
 use Rattle.answers.proofs.rows.Goals as goal
 
-pub returns-in-Are : goal.returns-in-Are
+pub returns-in-Ok : goal.returns-in-Ok
 unfolding rows_told
-returns-in-Are c =
-    sym (ap (λ (a : Rows). rows_shown (rows_told a)) c.in-Are.is)
+returns-in-Ok c =
+    sym (ap (λ (a : (Result Rows Refusal)). rows_shown (rows_told a)) c.in-Ok.is)
 
-pub returns-in-Refused : goal.returns-in-Refused
+pub returns-in-Err : goal.returns-in-Err
 unfolding rows_told
-returns-in-Refused c =
+returns-in-Err c =
     ap (λ (k : ℕ). rows_shown (record { number = k; values = []; need = 0 })) c.number.ensures
-    ∙ sym (ap (λ (a : Rows). rows_shown (rows_told a)) c.in-Refused.is)
+    ∙ sym (ap (λ (a : (Result Rows Refusal)). rows_shown (rows_told a)) c.in-Err.is)

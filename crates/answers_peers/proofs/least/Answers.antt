@@ -3,17 +3,18 @@ use Prim.Native.Nat.{ℕ}
 use mathlib.Core.Path.{ap, sym, ◌∙◌}
 use mathlib.Core.List.{[]}
 use Rattle.grid.specs.LentGrid.{least_told}
-use Rattle.grid.specs.declared.Least.{Least}
+use Rattle.std.specs.Prelude.{Result}
+use Rattle.rules.specs.declared.Refusal.{Refusal}
 use Rattle.answers_peers.specs.ShownPeers.{least_shown}
 use Rattle.answers_peers.proofs.least.Goals as goal
 
-pub returns-in-Is : goal.returns-in-Is
+pub returns-in-Ok : goal.returns-in-Ok
 unfolding least_told
-returns-in-Is c =
-    sym (ap (λ (a : Least). least_shown (least_told a)) c.in-Is.is)
+returns-in-Ok c =
+    sym (ap (λ (a : (Result ℕ Refusal)). least_shown (least_told a)) c.in-Ok.is)
 
-pub returns-in-Refused : goal.returns-in-Refused
+pub returns-in-Err : goal.returns-in-Err
 unfolding least_told
-returns-in-Refused c =
+returns-in-Err c =
     ap (λ (k : ℕ). least_shown (record { number = k; values = []; need = 0 })) c.number.ensures
-    ∙ sym (ap (λ (a : Least). least_shown (least_told a)) c.in-Refused.is)
+    ∙ sym (ap (λ (a : (Result ℕ Refusal)). least_shown (least_told a)) c.in-Err.is)

@@ -5,15 +5,15 @@ use Rattle.rules.proofs.Unique.{tells}
 use Rattle.apply.proofs.Applied.{bad-table}
 use Rattle.apply.proofs.apply_leaving.Goals as goal
 
+pub returns-then-not-check_table : goal.returns-then-not-check_table
+returns-then-not-check_table c =
+    let a = c.args in
+    tells applied_told (bad-table a.own.now a.delta.now a.clock a.answers.now a.table.now (sym c.check_table.ensures ∙ c.if-not-check_table.true))
+
 pub leaving_known-requires : goal.leaving_known-requires
 leaving_known-requires c =
-    sym c.check_table.ensures ∙ c.if-check_table.true
-
-pub returns-then-check_table : goal.returns-then-check_table
-returns-then-check_table c =
-    tells applied_told c.leaving_known.ensures
+    sym c.check_table.ensures ∙ c.if-not-check_table.false
 
 pub returns : goal.returns
 returns c =
-    let a = c.args in
-    tells applied_told (bad-table a.own.now a.delta.now a.clock a.answers.now a.table.now (sym c.check_table.ensures ∙ c.if-check_table.false))
+    tells applied_told c.leaving_known.ensures

@@ -32,12 +32,12 @@ pub returns-in-Less : goal.returns-in-Less
 returns-in-Less c =
     λ e. let z : ◌≡◌ {A = ℕ} 0 1 = cc in absurd (omega arith)
 
-pub returns-in-Same : goal.returns-in-Same
-returns-in-Same c =
+pub returns-in-Equal : goal.returns-in-Equal
+returns-in-Equal c =
     λ e. let z : ◌≡◌ {A = ℕ} 0 1 = cc in absurd (omega arith)
 
-pub returns-in-More : goal.returns-in-More
-returns-in-More c =
+pub returns-in-Greater : goal.returns-in-Greater
+returns-in-Greater c =
     let inside : c.byte_at-n.result - 1 < count_of c.args.node.now = omega (arith, c.if-n-eq0.false, c.byte_at-n.ensures.0) in
     λ _. behind-last c.args.key.now c.args.node.now c.requires.keys _ (omega (arith, inside, c.byte_at-n.ensures.0))
-    (sym (ap (order_of c.args.key.now) (c.key_of.ensures ∙ ap (λ (x : List ℕ). (decode_rec x).kv.key) c.record_of.ensures)) ∙ sym c.compare.ensures ∙ c.in-More.is)
+    (sym (ap (order_of c.args.key.now) (c.key_of.ensures ∙ ap (λ (x : List ℕ). (decode_rec x).kv.key) c.record_of.ensures)) ∙ sym c.compare.ensures ∙ c.in-Greater.is)

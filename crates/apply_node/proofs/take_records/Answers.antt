@@ -17,24 +17,24 @@ returns-in_default c =
 
 pub take_op-step-requires : goal.take_op-step-requires
 take_op-step-requires c =
-    (c.loop-i.invariant.0, (subst (Within (length c.args.delta.now) c.loop-i.i) (sym c.read_op-read.ensures ∙ c.in-Got.is) (op-within c.args.delta.now c.loop-i.i)).2)
+    (c.loop-i.invariant.0, (subst (Within (length c.args.delta.now) c.loop-i.i) (sym c.read_op-read.ensures ∙ c.in-Ok.is) (op-within c.args.delta.now c.loop-i.i)).2)
 
 pub returns-in-Over : goal.returns-in-Over
 returns-in-Over c =
-    stops _ _ _ _ _ _ _ _ c.loop-i.invariant c.loop-i-test.true _ _ (sym c.read_op-read.ensures ∙ c.in-Got.is) _ _ c.take_op-step.ensures c.in-Over.is
+    stops _ _ _ _ _ _ _ _ c.loop-i.invariant c.loop-i-test.true _ _ (sym c.read_op-read.ensures ∙ c.in-Ok.is) _ _ c.take_op-step.ensures c.in-Over.is
 
 pub returns-in-Full : goal.returns-in-Full
 returns-in-Full c =
-    has-none _ _ _ _ _ _ _ _ c.loop-i.invariant c.loop-i-test.true _ _ (sym c.read_op-read.ensures ∙ c.in-Got.is) _ _ c.take_op-step.ensures c.in-Full.is
+    has-none _ _ _ _ _ _ _ _ c.loop-i.invariant c.loop-i-test.true _ _ (sym c.read_op-read.ensures ∙ c.in-Ok.is) _ _ c.take_op-step.ensures c.in-Full.is
 
 pub loop-i-smaller : goal.loop-i-smaller
 loop-i-smaller c =
-    let w = ends _ _ _ _ (sym c.read_op-read.ensures ∙ c.in-Got.is) in
+    let w = ends _ _ _ _ (sym c.read_op-read.ensures ∙ c.in-Ok.is) in
     omega (arith, w.0, w.1)
 
 pub loop-i-preserved : goal.loop-i-preserved
 loop-i-preserved c =
-    goes _ _ _ _ _ _ _ _ c.loop-i.invariant c.loop-i-test.true _ _ (sym c.read_op-read.ensures ∙ c.in-Got.is) _ _ c.take_op-step.ensures c.in-Taken.is
+    goes _ _ _ _ _ _ _ _ c.loop-i.invariant c.loop-i-test.true _ _ (sym c.read_op-read.ensures ∙ c.in-Ok.is) _ _ c.take_op-step.ensures c.in-Taken.is
 
 pub returns : goal.returns
 returns c =

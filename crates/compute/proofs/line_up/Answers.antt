@@ -102,8 +102,8 @@ slice_bounds-queue-end c =
     let froms-long : (x : ℕ) → length (set c.loop-i.froms (c.loop-i.i - 1) x) ≡ max_nodes = λ (x : ℕ). length-set c.loop-i.froms (c.loop-i.i - 1) x ∙ c.loop-i.invariant.froms-long in
     sym (froms-long _)
 
-pub slice_bounds-queue-end-in-From : goal.slice_bounds-queue-end-in-From
-slice_bounds-queue-end-in-From c =
+pub slice_bounds-queue-end-in-Some : goal.slice_bounds-queue-end-in-Some
+slice_bounds-queue-end-in-Some c =
     let counts-long : (x : ℕ) → length (set c.loop-i.counts (c.loop-i.i - 1) x) ≡ max_nodes = λ (x : ℕ). length-set c.loop-i.counts (c.loop-i.i - 1) x ∙ c.loop-i.invariant.counts-long in
     sym (counts-long _)
 
@@ -144,13 +144,13 @@ overflow_add-n c =
     let few = few-nodes in
     omega arith
 
-pub loop-i-preserved-in-From : goal.loop-i-preserved-in-From
-loop-i-preserved-in-From c =
+pub loop-i-preserved-in-Some : goal.loop-i-preserved-in-Some
+loop-i-preserved-in-Some c =
     let digest : List NodeDigest = entries_in c.args.digest in
     let table : Table = decode c.args.table.now in
     let is-stale : let p : ℕ = c.loop-i.i - 1 in
-    (is_stale c.args.excluded.now (digest) (table) p ≡ true) × (c.in-From.from ≡ from_at (digest) (table) p) = let p : ℕ = c.loop-i.i - 1 in
-    told-stale c.args.excluded.now (digest) (table) p _ c.stale_from.ensures _ c.in-From.is in
+    (is_stale c.args.excluded.now (digest) (table) p ≡ true) × (c.in-Some.from ≡ from_at (digest) (table) p) = let p : ℕ = c.loop-i.i - 1 in
+    told-stale c.args.excluded.now (digest) (table) p _ c.stale_from.ensures _ c.in-Some.is in
     let few-nodes : length (table) ≤ max_nodes = rw length-decode c.requires.0.few in
     let node_in : c.loop-i.i - 1 < nodes_of c.args.table.now = let w = c.loop-i.invariant.within in
     let e = length-decode c.args.table.now in

@@ -6,6 +6,3 @@ use Rattle.compute.proofs.line_up.Given as goal
 
 abbrev pub invariant-loop-i : goal.invariant-loop-i
 invariant-loop-i l = Upto l.excluded (entries_in l.digest) l.ties (decode l.table) l.n l.i l.line l.froms l.counts
-
-abbrev pub decreases-loop-i : goal.decreases-loop-i
-decreases-loop-i l = l.i

@@ -5,15 +5,15 @@ use Rattle.compute_write.proofs.Steps.{gives_as}
 use Rattle.compute_plan.proofs.Calling.{in-edition, no-edition}
 use Rattle.compute_plan.proofs.compute_plan_good.Goals as goal
 
-pub returns-then-is_edition : goal.returns-then-is_edition
-returns-then-is_edition c =
-    let a = c.args in
-    gives_as
-    (in-edition a.edition a.excluded.now a.nodes.now a.counts.now a.mtu a.digest.now (decode a.table.now) a.place a.datagram.now
-    (sym c.is_edition.ensures ∙ c.if-is_edition.true)) c.compute_known.ensures
-
 pub returns : goal.returns
 returns c =
     let a = c.args in
+    gives_as
+    (in-edition a.edition a.excluded.now a.nodes.now a.counts.now a.mtu a.digest.now (decode a.table.now) a.place a.datagram.now
+    (sym c.is_edition.ensures ∙ c.if-not-is_edition.false)) c.compute_known.ensures
+
+pub returns-then-not-is_edition : goal.returns-then-not-is_edition
+returns-then-not-is_edition c =
+    let a = c.args in
     no-edition a.edition a.excluded.now a.nodes.now a.counts.now a.mtu a.digest.now (decode a.table.now) a.place a.datagram.now
-    (sym c.is_edition.ensures ∙ c.if-is_edition.false)
+    (sym c.is_edition.ensures ∙ c.if-not-is_edition.true)

@@ -9,22 +9,21 @@ use Rattle.digest_read.specs.declared.Digest.{Digest}
 use Rattle.compute_plan.proofs.Calling.{said-digest, said-lines, said-mtu}
 use Rattle.compute_plan.proofs.judge_known.Goals as goal
 
-pub returns-in-Nodes : goal.returns-in-Nodes
-returns-in-Nodes c =
+pub returns-then-not-mtu_fits : goal.returns-then-not-mtu_fits
+returns-then-not-mtu_fits c =
     let a = c.args in
-    let d = same-digest _ _ c.read_digest-d.ensures in
-    let read = read-nodes a.edition a.digest.now _ _ (sym (ap (λ (x : Digest). x.read) d) ∙ c.in-Nodes.is)
-    ∙ ap (λ (x : Digest). Entries (entries_in x) (rest_of (read_digest a.edition a.digest.now))) (sym d) in
-    c.judge_lines.ensures
-    ∙ said-lines a.excluded.now a.nodes.now a.counts.now a.mtu (read_digest a.edition a.digest.now) (decode a.table.now) (sym c.mtu_fits.ensures ∙ c.if-mtu_fits.true) _ _ read
+    said-mtu a.excluded.now a.nodes.now a.counts.now a.mtu (read_digest a.edition a.digest.now) (decode a.table.now) (sym c.mtu_fits.ensures ∙ c.if-not-mtu_fits.true)
 
-pub returns-in-Refused : goal.returns-in-Refused
-returns-in-Refused c =
+pub returns-in-Err : goal.returns-in-Err
+returns-in-Err c =
     let a = c.args in
-    let read = read-refused a.edition a.digest.now _ (sym (ap (λ (x : Digest). x.read) (same-digest _ _ c.read_digest-d.ensures)) ∙ c.in-Refused.is) in
-    said-digest a.excluded.now a.nodes.now a.counts.now a.mtu (read_digest a.edition a.digest.now) (decode a.table.now) (sym c.mtu_fits.ensures ∙ c.if-mtu_fits.true) _ read
+    let read = read-refused a.edition a.digest.now _ (sym (ap (λ (x : Digest). x.read) (same-digest _ _ c.read_digest-d.ensures)) ∙ c.in-Err.is) in
+    said-digest a.excluded.now a.nodes.now a.counts.now a.mtu (read_digest a.edition a.digest.now) (decode a.table.now) (sym c.mtu_fits.ensures ∙ c.if-not-mtu_fits.false) _ read
 
 pub returns : goal.returns
 returns c =
     let a = c.args in
-    said-mtu a.excluded.now a.nodes.now a.counts.now a.mtu (read_digest a.edition a.digest.now) (decode a.table.now) (sym c.mtu_fits.ensures ∙ c.if-mtu_fits.false)
+    let d = same-digest _ _ c.read_digest-d.ensures in
+    let read = read-nodes a.edition a.digest.now _ _ (sym (ap (λ (y : Digest). y.read) d) ∙ c.in_default.is)
+    ∙ ap (λ (y : Digest). Entries (entries_in y) (rest_of (read_digest a.edition a.digest.now))) (sym d) in
+    c.judge_lines.ensures ∙ said-lines a.excluded.now a.nodes.now a.counts.now a.mtu (read_digest a.edition a.digest.now) (decode a.table.now) (sym c.mtu_fits.ensures ∙ c.if-not-mtu_fits.false) _ _ read

@@ -7,21 +7,21 @@ use Rattle.compute_plan.proofs.plan_fault.Goals as goal
 
 pub slice_bounds-plan_fault_good-end : goal.slice_bounds-plan_fault_good-end
 slice_bounds-plan_fault_good-end c =
-    area-long _ c.check_table.ensures c.if-check_table.true
+    area-long _ c.check_table.ensures c.if-not-check_table.false
 
 pub plan_fault_good-requires : goal.plan_fault_good-requires
 plan_fault_good-requires c =
-    area-good _ c.check_table.ensures c.if-check_table.true
-
-pub returns-then-check_table : goal.returns-then-check_table
-returns-then-check_table c =
-    let a = c.args in
-    ap judged_told
-    (c.plan_fault_good.ensures
-    ∙ said-good-table a.edition a.excluded.now a.nodes.now a.counts.now a.mtu a.digest.now a.table.now (sym c.check_table.ensures ∙ c.if-check_table.true))
+    area-good _ c.check_table.ensures c.if-not-check_table.false
 
 pub returns : goal.returns
 returns c =
     let a = c.args in
     ap judged_told
-    (said-bad-table a.edition a.excluded.now a.nodes.now a.counts.now a.mtu a.digest.now a.table.now (sym c.check_table.ensures ∙ c.if-check_table.false))
+    (c.plan_fault_good.ensures
+    ∙ said-good-table a.edition a.excluded.now a.nodes.now a.counts.now a.mtu a.digest.now a.table.now (sym c.check_table.ensures ∙ c.if-not-check_table.false))
+
+pub returns-then-not-check_table : goal.returns-then-not-check_table
+returns-then-not-check_table c =
+    let a = c.args in
+    ap judged_told
+    (said-bad-table a.edition a.excluded.now a.nodes.now a.counts.now a.mtu a.digest.now a.table.now (sym c.check_table.ensures ∙ c.if-not-check_table.true))

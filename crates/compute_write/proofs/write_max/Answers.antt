@@ -20,20 +20,20 @@ pub max_at-requires : goal.max_at-requires
 max_at-requires c =
     held c.args.table.now c.requires.0 c.args.p c.requires.1
 
-pub returns-in-Bytes : goal.returns-in-Bytes
-returns-in-Bytes c =
+pub returns-in-Some : goal.returns-in-Some
+returns-in-Some c =
     let own-max : ℕ = (entry_at (decode c.args.table.now) c.args.p).node.max in
     let wrote : let call = c.write_set_max_version in
     Gives (write_op (SetMaxVersionOp (own-max)) c.args.datagram.now) call.result call.new.datagram = let call = c.write_set_max_version in
     let d : Bytes = c.args.datagram.now in
     subst (λ (m : ℕ). Gives (write_op (SetMaxVersionOp m) d) call.result call.new.datagram) c.max_at.ensures call.ensures in
-    max-sent c.args.stale (own-max) c.args.datagram.now _ _ c.if-stale-ne0.false (wrote) _ c.in-Bytes.is
+    max-sent c.args.stale (own-max) c.args.datagram.now _ _ c.if-stale-ne0.false (wrote) _ c.in-Some.is
 
-pub returns-in-NoFit : goal.returns-in-NoFit
-returns-in-NoFit c =
+pub returns-in-None : goal.returns-in-None
+returns-in-None c =
     let own-max : ℕ = (entry_at (decode c.args.table.now) c.args.p).node.max in
     let wrote : let call = c.write_set_max_version in
     Gives (write_op (SetMaxVersionOp (own-max)) c.args.datagram.now) call.result call.new.datagram = let call = c.write_set_max_version in
     let d : Bytes = c.args.datagram.now in
     subst (λ (m : ℕ). Gives (write_op (SetMaxVersionOp m) d) call.result call.new.datagram) c.max_at.ensures call.ensures in
-    max-left c.args.stale (own-max) c.args.datagram.now _ _ c.if-stale-ne0.false (wrote) c.in-NoFit.is
+    max-left c.args.stale (own-max) c.args.datagram.now _ _ c.if-stale-ne0.false (wrote) c.in-None.is

@@ -48,7 +48,7 @@ pub overflow_add-used : goal.overflow_add-used
 overflow_add-used c =
     let table : Table = decode c.args.table.now in
     let at_entry : Writing = let a = c.args in writing 0 0 (ops_at (table) a.froms.now (listed a.n a.line.now)) a.datagram.now in
-    let node-used : ℕ = c.nodes.used + c.in-Bytes.size in
+    let node-used : ℕ = c.nodes.used + c.in-Some.size in
     let own : ℕ = get_or c.args.line.now (c.nodes.j - 1) 0 in
     let own-from : ℕ = get_or c.args.froms.now (own) 0 in
     let others : List Op = ops_at (table) c.args.froms.now (listed (c.nodes.j - 1) c.args.line.now) in
@@ -58,7 +58,7 @@ overflow_add-used c =
     Reached (at_entry) (writing w.ops w.used next w.datagram) = let a = c.args in
     let w = c.nodes in
     left_is (next-node (table) a.froms.now a.line.now w.j c.nodes-test.true) w.invariant.2 in
-    let node-reached : Reached (at_entry) (writing (c.nodes.ops + 1) (node-used) (body_at (table) (own) (own-from) ++ others) (node-datagram)) = op-written c.write_node.ensures c.in-Bytes.is (node-next) in
+    let node-reached : Reached (at_entry) (writing (c.nodes.ops + 1) (node-used) (body_at (table) (own) (own-from) ++ others) (node-datagram)) = op-written c.write_node.ensures c.in-Some.is (node-next) in
     let w = node-reached in omega arith
 
 -- ---- the needs: its stale records, its SetMaxVersion
@@ -80,7 +80,7 @@ pub slice_bounds-write_max-count : goal.slice_bounds-write_max-count
 slice_bounds-write_max-count c =
     let table : Table = decode c.args.table.now in
     let at_entry : Writing = let a = c.args in writing 0 0 (ops_at (table) a.froms.now (listed a.n a.line.now)) a.datagram.now in
-    let node-used : ℕ = c.nodes.used + c.in-Bytes.size in
+    let node-used : ℕ = c.nodes.used + c.in-Some.size in
     let own : ℕ = get_or c.args.line.now (c.nodes.j - 1) 0 in
     let own-from : ℕ = get_or c.args.froms.now (own) 0 in
     let others : List Op = ops_at (table) c.args.froms.now (listed (c.nodes.j - 1) c.args.line.now) in
@@ -90,14 +90,14 @@ slice_bounds-write_max-count c =
     Reached (at_entry) (writing w.ops w.used next w.datagram) = let a = c.args in
     let w = c.nodes in
     left_is (next-node (table) a.froms.now a.line.now w.j c.nodes-test.true) w.invariant.2 in
-    let node-reached : Reached (at_entry) (writing (c.nodes.ops + 1) (node-used) (body_at (table) (own) (own-from) ++ others) (node-datagram)) = op-written c.write_node.ensures c.in-Bytes.is (node-next) in
+    let node-reached : Reached (at_entry) (writing (c.nodes.ops + 1) (node-used) (body_at (table) (own) (own-from) ++ others) (node-datagram)) = op-written c.write_node.ensures c.in-Some.is (node-next) in
     (node-reached).room
 
 pub slice_bounds-write_max-start : goal.slice_bounds-write_max-start
 slice_bounds-write_max-start c =
     let table : Table = decode c.args.table.now in
     let at_entry : Writing = let a = c.args in writing 0 0 (ops_at (table) a.froms.now (listed a.n a.line.now)) a.datagram.now in
-    let node-used : ℕ = c.nodes.used + c.in-Bytes.size in
+    let node-used : ℕ = c.nodes.used + c.in-Some.size in
     let own : ℕ = get_or c.args.line.now (c.nodes.j - 1) 0 in
     let own-from : ℕ = get_or c.args.froms.now (own) 0 in
     let others : List Op = ops_at (table) c.args.froms.now (listed (c.nodes.j - 1) c.args.line.now) in
@@ -107,7 +107,7 @@ slice_bounds-write_max-start c =
     Reached (at_entry) (writing w.ops w.used next w.datagram) = let a = c.args in
     let w = c.nodes in
     left_is (next-node (table) a.froms.now a.line.now w.j c.nodes-test.true) w.invariant.2 in
-    let node-reached : Reached (at_entry) (writing (c.nodes.ops + 1) (node-used) (body_at (table) (own) (own-from) ++ others) (node-datagram)) = op-written c.write_node.ensures c.in-Bytes.is (node-next) in
+    let node-reached : Reached (at_entry) (writing (c.nodes.ops + 1) (node-used) (body_at (table) (own) (own-from) ++ others) (node-datagram)) = op-written c.write_node.ensures c.in-Some.is (node-next) in
     (node-reached).room
 
 pub write_max-sent-requires : goal.write_max-sent-requires
@@ -120,7 +120,7 @@ pub overflow_add-ops-in-nodes : goal.overflow_add-ops-in-nodes
 overflow_add-ops-in-nodes c =
     let table : Table = decode c.args.table.now in
     let at_entry : Writing = let a = c.args in writing 0 0 (ops_at (table) a.froms.now (listed a.n a.line.now)) a.datagram.now in
-    let node-used : ℕ = c.nodes.used + c.in-Bytes.size in
+    let node-used : ℕ = c.nodes.used + c.in-Some.size in
     let own : ℕ = get_or c.args.line.now (c.nodes.j - 1) 0 in
     let others : List Op = ops_at (table) c.args.froms.now (listed (c.nodes.j - 1) c.args.line.now) in
     let node-datagram : Bytes = let w = c.nodes in back w.used w.datagram c.write_node.new.datagram in
@@ -135,7 +135,7 @@ overflow_add-ops-in-nodes c =
     Reached (at_entry) (writing w.ops w.used next w.datagram) = let a = c.args in
     let w = c.nodes in
     left_is (next-node (table) a.froms.now a.line.now w.j c.nodes-test.true) w.invariant.2 in
-    let node-reached : Reached (at_entry) (writing (c.nodes.ops + 1) (node-used) (body_at (table) (own) (own-from) ++ others) (node-datagram)) = op-written c.write_node.ensures c.in-Bytes.is (node-next) in
+    let node-reached : Reached (at_entry) (writing (c.nodes.ops + 1) (node-used) (body_at (table) (own) (own-from) ++ others) (node-datagram)) = op-written c.write_node.ensures c.in-Some.is (node-next) in
     let records-reached : Reached (at_entry) (begun) = body-begun c.args.table.now c.requires.0 (own) (node_in) _ c.node_of.ensures (own-from) _ c.stale_places-stale.ensures
     (others) c.write_max-sent.ensures (node-reached) in
     let w = records-reached in omega arith
@@ -144,7 +144,7 @@ pub overflow_add-used-in-nodes : goal.overflow_add-used-in-nodes
 overflow_add-used-in-nodes c =
     let table : Table = decode c.args.table.now in
     let at_entry : Writing = let a = c.args in writing 0 0 (ops_at (table) a.froms.now (listed a.n a.line.now)) a.datagram.now in
-    let node-used : ℕ = c.nodes.used + c.in-Bytes.size in
+    let node-used : ℕ = c.nodes.used + c.in-Some.size in
     let own : ℕ = get_or c.args.line.now (c.nodes.j - 1) 0 in
     let others : List Op = ops_at (table) c.args.froms.now (listed (c.nodes.j - 1) c.args.line.now) in
     let node-datagram : Bytes = let w = c.nodes in back w.used w.datagram c.write_node.new.datagram in
@@ -159,7 +159,7 @@ overflow_add-used-in-nodes c =
     Reached (at_entry) (writing w.ops w.used next w.datagram) = let a = c.args in
     let w = c.nodes in
     left_is (next-node (table) a.froms.now a.line.now w.j c.nodes-test.true) w.invariant.2 in
-    let node-reached : Reached (at_entry) (writing (c.nodes.ops + 1) (node-used) (body_at (table) (own) (own-from) ++ others) (node-datagram)) = op-written c.write_node.ensures c.in-Bytes.is (node-next) in
+    let node-reached : Reached (at_entry) (writing (c.nodes.ops + 1) (node-used) (body_at (table) (own) (own-from) ++ others) (node-datagram)) = op-written c.write_node.ensures c.in-Some.is (node-next) in
     let records-reached : Reached (at_entry) (begun) = body-begun c.args.table.now c.requires.0 (own) (node_in) _ c.node_of.ensures (own-from) _ c.stale_places-stale.ensures
     (others) c.write_max-sent.ensures (node-reached) in
     let w = records-reached in omega arith
@@ -172,7 +172,7 @@ loop-k-init c =
     let own-from : ℕ = get_or c.args.froms.now (own) 0 in
     let table : Table = decode c.args.table.now in
     let at_entry : Writing = let a = c.args in writing 0 0 (ops_at (table) a.froms.now (listed a.n a.line.now)) a.datagram.now in
-    let node-used : ℕ = c.nodes.used + c.in-Bytes.size in
+    let node-used : ℕ = c.nodes.used + c.in-Some.size in
     let others : List Op = ops_at (table) c.args.froms.now (listed (c.nodes.j - 1) c.args.line.now) in
     let node-datagram : Bytes = let w = c.nodes in back w.used w.datagram c.write_node.new.datagram in
     let begun : Writing = let sent = c.write_max-sent in
@@ -184,7 +184,7 @@ loop-k-init c =
     Reached (at_entry) (writing w.ops w.used next w.datagram) = let a = c.args in
     let w = c.nodes in
     left_is (next-node (table) a.froms.now a.line.now w.j c.nodes-test.true) w.invariant.2 in
-    let node-reached : Reached (at_entry) (writing (c.nodes.ops + 1) (node-used) (body_at (table) (own) (own-from) ++ others) (node-datagram)) = op-written c.write_node.ensures c.in-Bytes.is (node-next) in
+    let node-reached : Reached (at_entry) (writing (c.nodes.ops + 1) (node-used) (body_at (table) (own) (own-from) ++ others) (node-datagram)) = op-written c.write_node.ensures c.in-Some.is (node-next) in
     let records-reached : Reached (at_entry) (begun) = body-begun c.args.table.now c.requires.0 (own) (node_in) _ c.node_of.ensures (own-from) _ c.stale_places-stale.ensures
     (others) c.write_max-sent.ensures (node-reached) in
     let l : Bytes = c.args.table.now in
@@ -203,7 +203,7 @@ nodes-preserved c =
     let own-places : List ℕ = c.stale_places-stale.result.at in
     let others : List Op = ops_at (table) c.args.froms.now (listed (c.nodes.j - 1) c.args.line.now) in
     let at_entry : Writing = let a = c.args in writing 0 0 (ops_at (table) a.froms.now (listed a.n a.line.now)) a.datagram.now in
-    let node-used : ℕ = c.nodes.used + c.in-Bytes.size in
+    let node-used : ℕ = c.nodes.used + c.in-Some.size in
     let node-datagram : Bytes = let w = c.nodes in back w.used w.datagram c.write_node.new.datagram in
     let begun : Writing = let sent = c.write_max-sent in
     writing (c.nodes.ops + 1 + sent.result.ops) (node-used + sent.result.bytes)
@@ -216,7 +216,7 @@ nodes-preserved c =
     Reached (at_entry) (writing w.ops w.used next w.datagram) = let a = c.args in
     let w = c.nodes in
     left_is (next-node (table) a.froms.now a.line.now w.j c.nodes-test.true) w.invariant.2 in
-    let node-reached : Reached (at_entry) (writing (c.nodes.ops + 1) (node-used) (body_at (table) (own) (own-from) ++ others) (node-datagram)) = op-written c.write_node.ensures c.in-Bytes.is (node-next) in
+    let node-reached : Reached (at_entry) (writing (c.nodes.ops + 1) (node-used) (body_at (table) (own) (own-from) ++ others) (node-datagram)) = op-written c.write_node.ensures c.in-Some.is (node-next) in
     let records-reached : Reached (at_entry) (begun) = body-begun c.args.table.now c.requires.0 (own) (node_in) _ c.node_of.ensures (own-from) _ c.stale_places-stale.ensures
     (others) c.write_max-sent.ensures (node-reached) in
     let w = c.loop-k in
@@ -241,7 +241,7 @@ overflow_add-ops-in-loop-k c =
     let own : ℕ = get_or c.args.line.now (c.nodes.j - 1) 0 in
     let own-places : List ℕ = c.stale_places-stale.result.at in
     let others : List Op = ops_at (table) c.args.froms.now (listed (c.nodes.j - 1) c.args.line.now) in
-    let node-used : ℕ = c.nodes.used + c.in-Bytes.size in
+    let node-used : ℕ = c.nodes.used + c.in-Some.size in
     let node-datagram : Bytes = let w = c.nodes in back w.used w.datagram c.write_node.new.datagram in
     let begun : Writing = let sent = c.write_max-sent in
     writing (c.nodes.ops + 1 + sent.result.ops) (node-used + sent.result.bytes)
@@ -255,7 +255,7 @@ overflow_add-ops-in-loop-k c =
     let record-reached : let w = c.loop-k in
     let later : List Op = record_ops (table) (own) (listed (w.k - 1) (own-places)) ++ others in
     let datagram : Bytes = back w.used w.datagram c.write_record.new.datagram in
-    Reached (begun) (writing (w.ops + 1) (w.used + c.in-Bytes-write_record.size) later datagram) = op-written c.write_record.ensures c.in-Bytes-write_record.is (record-next) in
+    Reached (begun) (writing (w.ops + 1) (w.used + c.in-Some-write_record.size) later datagram) = op-written c.write_record.ensures c.in-Some-write_record.is (record-next) in
     let at_entry : Writing = let a = c.args in writing 0 0 (ops_at (table) a.froms.now (listed a.n a.line.now)) a.datagram.now in
     let node_in : own < nodes_of c.args.table.now = c.nodes.invariant.1 _ (listed_in c.nodes.j c.args.line.now c.nodes-test.true) in
     let own-from : ℕ = get_or c.args.froms.now (own) 0 in
@@ -264,7 +264,7 @@ overflow_add-ops-in-loop-k c =
     Reached (at_entry) (writing w.ops w.used next w.datagram) = let a = c.args in
     let w = c.nodes in
     left_is (next-node (table) a.froms.now a.line.now w.j c.nodes-test.true) w.invariant.2 in
-    let node-reached : Reached (at_entry) (writing (c.nodes.ops + 1) (node-used) (body_at (table) (own) (own-from) ++ others) (node-datagram)) = op-written c.write_node.ensures c.in-Bytes.is (node-next) in
+    let node-reached : Reached (at_entry) (writing (c.nodes.ops + 1) (node-used) (body_at (table) (own) (own-from) ++ others) (node-datagram)) = op-written c.write_node.ensures c.in-Some.is (node-next) in
     let records-reached : Reached (at_entry) (begun) = body-begun c.args.table.now c.requires.0 (own) (node_in) _ c.node_of.ensures (own-from) _ c.stale_places-stale.ensures
     (others) c.write_max-sent.ensures (node-reached) in
     let entry-long : length c.loop-k.datagram ≡ length c.args.datagram.now = c.loop-k.invariant.3.long ∙ (records-reached).long in
@@ -278,7 +278,7 @@ overflow_add-used-in-loop-k c =
     let own : ℕ = get_or c.args.line.now (c.nodes.j - 1) 0 in
     let own-places : List ℕ = c.stale_places-stale.result.at in
     let others : List Op = ops_at (table) c.args.froms.now (listed (c.nodes.j - 1) c.args.line.now) in
-    let node-used : ℕ = c.nodes.used + c.in-Bytes.size in
+    let node-used : ℕ = c.nodes.used + c.in-Some.size in
     let node-datagram : Bytes = let w = c.nodes in back w.used w.datagram c.write_node.new.datagram in
     let begun : Writing = let sent = c.write_max-sent in
     writing (c.nodes.ops + 1 + sent.result.ops) (node-used + sent.result.bytes)
@@ -292,7 +292,7 @@ overflow_add-used-in-loop-k c =
     let record-reached : let w = c.loop-k in
     let later : List Op = record_ops (table) (own) (listed (w.k - 1) (own-places)) ++ others in
     let datagram : Bytes = back w.used w.datagram c.write_record.new.datagram in
-    Reached (begun) (writing (w.ops + 1) (w.used + c.in-Bytes-write_record.size) later datagram) = op-written c.write_record.ensures c.in-Bytes-write_record.is (record-next) in
+    Reached (begun) (writing (w.ops + 1) (w.used + c.in-Some-write_record.size) later datagram) = op-written c.write_record.ensures c.in-Some-write_record.is (record-next) in
     let at_entry : Writing = let a = c.args in writing 0 0 (ops_at (table) a.froms.now (listed a.n a.line.now)) a.datagram.now in
     let node_in : own < nodes_of c.args.table.now = c.nodes.invariant.1 _ (listed_in c.nodes.j c.args.line.now c.nodes-test.true) in
     let own-from : ℕ = get_or c.args.froms.now (own) 0 in
@@ -301,7 +301,7 @@ overflow_add-used-in-loop-k c =
     Reached (at_entry) (writing w.ops w.used next w.datagram) = let a = c.args in
     let w = c.nodes in
     left_is (next-node (table) a.froms.now a.line.now w.j c.nodes-test.true) w.invariant.2 in
-    let node-reached : Reached (at_entry) (writing (c.nodes.ops + 1) (node-used) (body_at (table) (own) (own-from) ++ others) (node-datagram)) = op-written c.write_node.ensures c.in-Bytes.is (node-next) in
+    let node-reached : Reached (at_entry) (writing (c.nodes.ops + 1) (node-used) (body_at (table) (own) (own-from) ++ others) (node-datagram)) = op-written c.write_node.ensures c.in-Some.is (node-next) in
     let records-reached : Reached (at_entry) (begun) = body-begun c.args.table.now c.requires.0 (own) (node_in) _ c.node_of.ensures (own-from) _ c.stale_places-stale.ensures
     (others) c.write_max-sent.ensures (node-reached) in
     let entry-long : length c.loop-k.datagram ≡ length c.args.datagram.now = c.loop-k.invariant.3.long ∙ (records-reached).long in
@@ -315,7 +315,7 @@ loop-k-preserved c =
     let table : Table = decode c.args.table.now in
     let own : ℕ = get_or c.args.line.now (c.nodes.j - 1) 0 in
     let others : List Op = ops_at (table) c.args.froms.now (listed (c.nodes.j - 1) c.args.line.now) in
-    let node-used : ℕ = c.nodes.used + c.in-Bytes.size in
+    let node-used : ℕ = c.nodes.used + c.in-Some.size in
     let node-datagram : Bytes = let w = c.nodes in back w.used w.datagram c.write_node.new.datagram in
     let begun : Writing = let sent = c.write_max-sent in
     writing (c.nodes.ops + 1 + sent.result.ops) (node-used + sent.result.bytes)
@@ -329,7 +329,7 @@ loop-k-preserved c =
     let record-reached : let w = c.loop-k in
     let later : List Op = record_ops (table) (own) (listed (w.k - 1) (own-places)) ++ others in
     let datagram : Bytes = back w.used w.datagram c.write_record.new.datagram in
-    Reached (begun) (writing (w.ops + 1) (w.used + c.in-Bytes-write_record.size) later datagram) = op-written c.write_record.ensures c.in-Bytes-write_record.is (record-next) in
+    Reached (begun) (writing (w.ops + 1) (w.used + c.in-Some-write_record.size) later datagram) = op-written c.write_record.ensures c.in-Some-write_record.is (record-next) in
     let w = c.loop-k in (
       omega (arith, w),
       w.invariant.1,
@@ -365,7 +365,7 @@ shape_of-datagram-in_default-write_record c =
     let table : Table = decode c.args.table.now in
     let own : ℕ = get_or c.args.line.now (c.nodes.j - 1) 0 in
     let others : List Op = ops_at (table) c.args.froms.now (listed (c.nodes.j - 1) c.args.line.now) in
-    let node-used : ℕ = c.nodes.used + c.in-Bytes.size in
+    let node-used : ℕ = c.nodes.used + c.in-Some.size in
     let node-datagram : Bytes = let w = c.nodes in back w.used w.datagram c.write_node.new.datagram in
     let begun : Writing = let sent = c.write_max-sent in
     writing (c.nodes.ops + 1 + sent.result.ops) (node-used + sent.result.bytes)
@@ -384,7 +384,7 @@ shape_of-datagram-in_default-write_record c =
     Reached (at_entry) (writing w.ops w.used next w.datagram) = let a = c.args in
     let w = c.nodes in
     left_is (next-node (table) a.froms.now a.line.now w.j c.nodes-test.true) w.invariant.2 in
-    let node-reached : Reached (at_entry) (writing (c.nodes.ops + 1) (node-used) (body_at (table) (own) (own-from) ++ others) (node-datagram)) = op-written c.write_node.ensures c.in-Bytes.is (node-next) in
+    let node-reached : Reached (at_entry) (writing (c.nodes.ops + 1) (node-used) (body_at (table) (own) (own-from) ++ others) (node-datagram)) = op-written c.write_node.ensures c.in-Some.is (node-next) in
     let records-reached : Reached (at_entry) (begun) = body-begun c.args.table.now c.requires.0 (own) (node_in) _ c.node_of.ensures (own-from) _ c.stale_places-stale.ensures
     (others) c.write_max-sent.ensures (node-reached) in
     unfit-long c.write_record.ensures c.in_default-write_record.is (record-next)
@@ -394,7 +394,7 @@ pub returns-in_default-write_record : goal.returns-in_default-write_record
 returns-in_default-write_record c =
     let table : Table = decode c.args.table.now in
     let at_entry : Writing = let a = c.args in writing 0 0 (ops_at (table) a.froms.now (listed a.n a.line.now)) a.datagram.now in
-    let node-used : ℕ = c.nodes.used + c.in-Bytes.size in
+    let node-used : ℕ = c.nodes.used + c.in-Some.size in
     let own : ℕ = get_or c.args.line.now (c.nodes.j - 1) 0 in
     let others : List Op = ops_at (table) c.args.froms.now (listed (c.nodes.j - 1) c.args.line.now) in
     let node-datagram : Bytes = let w = c.nodes in back w.used w.datagram c.write_node.new.datagram in
@@ -409,7 +409,7 @@ returns-in_default-write_record c =
     Reached (at_entry) (writing w.ops w.used next w.datagram) = let a = c.args in
     let w = c.nodes in
     left_is (next-node (table) a.froms.now a.line.now w.j c.nodes-test.true) w.invariant.2 in
-    let node-reached : Reached (at_entry) (writing (c.nodes.ops + 1) (node-used) (body_at (table) (own) (own-from) ++ others) (node-datagram)) = op-written c.write_node.ensures c.in-Bytes.is (node-next) in
+    let node-reached : Reached (at_entry) (writing (c.nodes.ops + 1) (node-used) (body_at (table) (own) (own-from) ++ others) (node-datagram)) = op-written c.write_node.ensures c.in-Some.is (node-next) in
     let records-reached : Reached (at_entry) (begun) = body-begun c.args.table.now c.requires.0 (own) (node_in) _ c.node_of.ensures (own-from) _ c.stale_places-stale.ensures
     (others) c.write_max-sent.ensures (node-reached) in
     let own-places : List ℕ = c.stale_places-stale.result.at in

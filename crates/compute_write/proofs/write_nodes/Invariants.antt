@@ -23,14 +23,8 @@ invariant-loop-k l = (l.k ≤ max_records)
     × Reached (writing l.initial.ops l.initial.used (record_ops (decode l.table) l.p (listed l.initial.k l.at) ++ ops_at (decode l.table) l.froms (listed l.j l.line)) l.initial.datagram)
     (writing l.ops l.used (record_ops (decode l.table) l.p (listed l.k l.at) ++ ops_at (decode l.table) l.froms (listed l.j l.line)) l.datagram)
 
-abbrev pub decreases-loop-k : goal.decreases-loop-k
-decreases-loop-k l = l.k
-
 -- the loop over the nodes: the places are those of nodes, and writing has come on from the function's entry
 abbrev pub invariant-nodes : goal.invariant-nodes
 invariant-nodes l = (l.j ≤ l.n)
     × AllBelow (nodes_of l.table) (listed l.j l.line)
     × Reached (writing 0 0 (ops_at (decode l.table) l.froms (listed l.n l.line)) l.initial.datagram) (writing l.ops l.used (ops_at (decode l.table) l.froms (listed l.j l.line)) l.datagram)
-
-abbrev pub decreases-nodes : goal.decreases-nodes
-decreases-nodes l = l.j

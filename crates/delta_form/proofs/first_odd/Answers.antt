@@ -21,22 +21,22 @@ returns-in_default c =
 pub op_formed-requires : goal.op_formed-requires
 op_formed-requires c =
     let l = c.args.delta.now in
-    (subst (Within (length l) c.loop-at.at) (sym c.read_op-read.ensures ∙ c.in-Got.is) (op-within l c.loop-at.at)).2
+    (subst (Within (length l) c.loop-at.at) (sym c.read_op-read.ensures ∙ c.in-Ok.is) (op-within l c.loop-at.at)).2
 
 -- the operation that the turn has read
 pub loop-at-smaller : goal.loop-at-smaller
 loop-at-smaller c =
-    let w = ends c.args.delta.now c.loop-at.at _ _ (sym c.read_op-read.ensures ∙ c.in-Got.is) in
+    let w = ends c.args.delta.now c.loop-at.at _ _ (sym c.read_op-read.ensures ∙ c.in-Ok.is) in
     omega (arith, w)
 
 pub loop-at-preserved : goal.loop-at-preserved
 loop-at-preserved c =
-    goes_on c.args.profile c.args.delta.now c.args.end c.loop-at.at c.loop-at.invariant c.loop-at-test.true c.requires _ _ (sym c.read_op-read.ensures ∙ c.in-Got.is)
+    goes_on c.args.profile c.args.delta.now c.args.end c.loop-at.at c.loop-at.invariant c.loop-at-test.true c.requires _ _ (sym c.read_op-read.ensures ∙ c.in-Ok.is)
     c.op_formed.ensures c.if-op_formed.true
 
 pub returns-else-op_formed : goal.returns-else-op_formed
 returns-else-op_formed c =
-    is_odd c.args.profile c.args.delta.now c.args.end c.loop-at.at c.loop-at.invariant c.loop-at-test.true c.requires _ _ (sym c.read_op-read.ensures ∙ c.in-Got.is)
+    is_odd c.args.profile c.args.delta.now c.args.end c.loop-at.at c.loop-at.invariant c.loop-at-test.true c.requires _ _ (sym c.read_op-read.ensures ∙ c.in-Ok.is)
     c.op_formed.ensures c.if-op_formed.false
 
 pub returns : goal.returns

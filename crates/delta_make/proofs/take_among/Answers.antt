@@ -1,11 +1,15 @@
 -- `delta_make::take_among` meets its contract: too long a line, a whole line, or a byte more. Assumes nothing.
-use Prim.Native.Nat.{◌+◌, ◌≤◌}
+use Prim.Native.Nat.{ℕ, ◌+◌, ◌≤◌, ◌<◌}
+use mathlib.Core.List.{List}
 use mathlib.Core.Path.{sym}
 use native.Mathlib.Omega.{arith}
 use lib.ListN.{length, length-set, set}
 use lib.Seq.{length-take-le}
 use Rattle.delta_make.proofs.Steps.{among-line, among-long, among-more}
 use Rattle.delta_make.proofs.take_among.Goals as goal
+
+room : (l : List ℕ) (held b : ℕ) → held < length l → held + 1 ≤ length (set l held b)
+room l held b h = omega (arith, length-set l held b)
 
 pub returns-then-line-held : goal.returns-then-line-held
 returns-then-line-held c =
@@ -14,15 +18,11 @@ returns-then-line-held c =
 
 pub slice_bounds-take_line-end : goal.slice_bounds-take_line-end
 slice_bounds-take_line-end c =
-    let within : let a = c.args in a.making.held + 1 ≤ length (set a.line.now a.making.held a.byte) = let a = c.args in
-    omega (arith, length-set a.line.now a.making.held a.byte, c.if-line-held.false) in
-    within
+    room c.args.line.now c.args.making.held c.args.byte c.if-line-held.false
 
 pub slice_bounds-take_line-end-then-byte-eq10 : goal.slice_bounds-take_line-end-then-byte-eq10
 slice_bounds-take_line-end-then-byte-eq10 c =
-    let within : let a = c.args in a.making.held + 1 ≤ length (set a.line.now a.making.held a.byte) = let a = c.args in
-    omega (arith, length-set a.line.now a.making.held a.byte, c.if-line-held.false) in
-    sym (length-take-le _ _ (within))
+    sym (length-take-le _ _ (room c.args.line.now c.args.making.held c.args.byte c.if-line-held.false))
 
 pub returns-then-byte-eq10 : goal.returns-then-byte-eq10
 returns-then-byte-eq10 c =

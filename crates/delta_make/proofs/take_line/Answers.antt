@@ -1,7 +1,5 @@
 -- `delta_make::take_line` meets its contract: an operation's line, the end line, or none of them. Assumes nothing.
-use Prim.Native.Nat.{◌≤◌}
 use mathlib.Core.Path.{sym}
-use lib.ListN.{length}
 use lib.Seq.{length-take-le}
 use Rattle.listing_read.specs.Unlist.{read_line}
 use Rattle.delta_make.proofs.Steps.{line-bad, line-end, line-op}
@@ -20,13 +18,11 @@ returns-then-n-eq0 c =
 
 pub slice_bounds-op-end : goal.slice_bounds-op-end
 slice_bounds-op-end c =
-    let within : c.read_line-n.result ≤ length c.read_line-n.new.out = told-within (read_line c.args.line.now) _ c.read_line-n.new.out c.read_line-n.ensures in
-    within
+    told-within (read_line c.args.line.now) _ c.read_line-n.new.out c.read_line-n.ensures
 
 pub slice_bounds-store-end : goal.slice_bounds-store-end
 slice_bounds-store-end c =
-    let within : c.read_line-n.result ≤ length c.read_line-n.new.out = told-within (read_line c.args.line.now) _ c.read_line-n.new.out c.read_line-n.ensures in
-    sym (length-take-le _ _ (within))
+    sym (length-take-le _ _ (told-within (read_line c.args.line.now) _ c.read_line-n.new.out c.read_line-n.ensures))
 
 pub returns : goal.returns
 returns c =

@@ -1,10 +1,10 @@
 -- `delta_names::put_numbers` meets its contract: what stands and what is left are the whole. Assumes nothing.
-use Prim.Native.Nat.{ℕ, ◌+◌, ◌-◌, ◌≤◌}
-use mathlib.Core.Path.{◌≡◌, refl, ap, sym, ◌∙◌}
+use Prim.Native.Nat.{ℕ, ◌+◌, ◌-◌}
+use mathlib.Core.Path.{◌≡◌, ap, sym, ◌∙◌}
 use mathlib.Core.List.{List}
 use native.Mathlib.Omega.{arith}
 use native.Mathlib.Nat.{sub-zero}
-use lib.ListN.{length, get_or, length-set, set}
+use lib.ListN.{set}
 use Rattle.fields.specs.Parts.{put}
 use Rattle.delta_names.specs.Names.{numbers_at}
 use Rattle.delta_names.proofs.Names.{over, turn}
@@ -18,35 +18,18 @@ stored s at list t i n v w e p = ap (λ (x : ℕ). put (i + 1) (numbers_at s at 
 pub loop-i-init : goal.loop-i-init
 loop-i-init c =
     let a = c.args in
-    (omega arith, refl, ap (λ (k : ℕ). put 0 (numbers_at a.delta.now a.places.now 0 k) a.list.now) (sub-zero a.n))
-
-pub overflow_add-at : goal.overflow_add-at
-overflow_add-at c =
-    let lies : get_or c.args.places.now c.loop-i.i 0 + 25 ≤ length c.args.delta.now = c.requires.2 c.loop-i.i c.loop-i-test.true in
-    omega (arith, lies, c.well_formed.0)
-
-pub read_u64-requires : goal.read_u64-requires
-read_u64-requires c =
-    let lies : get_or c.args.places.now c.loop-i.i 0 + 25 ≤ length c.args.delta.now = c.requires.2 c.loop-i.i c.loop-i-test.true in
-    omega (arith, lies)
+    ap (λ (k : ℕ). put 0 (numbers_at a.delta.now a.places.now 0 k) a.list.now) (sub-zero a.n)
 
 pub loop-i-preserved : goal.loop-i-preserved
 loop-i-preserved c =
     let q = c.loop-i in
     let a = c.args in
-    let low = c.loop-i-test.true in (
-      omega (arith, low),
-      length-set q.list q.i c.read_u64.result ∙ q.invariant.1,
-      stored a.delta.now a.places.now q.list (put 0 (numbers_at a.delta.now a.places.now 0 a.n) a.list.now) q.i a.n c.read_u64.result _ c.read_u64.ensures
-          (turn a.delta.now a.places.now q.list _ q.i a.n low (omega (arith, low, c.requires.1, q.invariant.1)) q.invariant.2),
-    )
-
-pub shape_of-list : goal.shape_of-list
-shape_of-list c =
-    c.loop-i.invariant.1
+    let low = c.loop-i-test.true in
+    stored a.delta.now a.places.now q.list (put 0 (numbers_at a.delta.now a.places.now 0 a.n) a.list.now) q.i a.n c.read_u64.result _ c.read_u64.ensures
+    (turn a.delta.now a.places.now q.list _ q.i a.n low (omega (arith, low, c.requires.1, q.auto.list)) q.invariant)
 
 pub returns : goal.returns
 returns c =
     let q = c.loop-i in
     let a = c.args in
-    sym (over a.delta.now a.places.now q.list q.i a.n c.loop-i-test.false) ∙ q.invariant.2
+    sym (over a.delta.now a.places.now q.list q.i a.n c.loop-i-test.false) ∙ q.invariant

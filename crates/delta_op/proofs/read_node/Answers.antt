@@ -10,18 +10,18 @@ use Rattle.fields.specs.Widths.{offset}
 use Rattle.rules.specs.Delta.{byte_width, node_op_width, node_op_widths, number_lacks, number_width}
 use Rattle.rules.specs.declared.Refusal.TheVariants.{Cut}
 use Rattle.delta_op.specs.declared.Op.TheVariants.{Node}
-use Rattle.delta_op.specs.declared.OpRead.TheVariants.{Got, Bad}
+use Rattle.std.specs.Prelude.{Err, Ok}
 use Rattle.delta_op.specs.Places.{node_at}
 use Rattle.delta_op.proofs.read_node.Goals as goal
 
 module _ (l : Bytes) (at : ℕ) (in-l : at < length l) where
-  short : (k : ℕ) → length l - at < node_op_width → k ≡ number_lacks (length l - at - byte_width) → Bad (Cut k) ≡ node_at l at
+  short : (k : ℕ) → length l - at < node_op_width → k ≡ number_lacks (length l - at - byte_width) → Err (Cut k) ≡ node_at l at
   unfolding node_at
   short k h e = rw (e, lt-leb (at + node_op_width) (length l) (omega arith))
 
   whole : (n g f : ℕ) → node_op_width ≤ length l - at → n ≡ nat_of (part (at + offset node_op_widths 1) number_width l)
       → g ≡ nat_of (part (at + offset node_op_widths 2) number_width l) → f ≡ nat_of (part (at + offset node_op_widths 3) number_width l)
-      → Got (Node n g f) (at + node_op_width) ≡ node_at l at
+      → (Ok ((Node n g f), (at + node_op_width))) ≡ node_at l at
   unfolding node_at
   whole n g f h p q r = rw (le-leb (at + node_op_width) (length l) (omega arith), p, q, r)
 

@@ -9,25 +9,26 @@ use Rattle.fields.specs.Numbers.{nat_of}
 use Rattle.fields.specs.Parts.{part}
 use Rattle.rules.specs.Delta.{byte_width}
 use Rattle.rules.specs.declared.Refusal.TheVariants.{Cut, BadTag}
-use Rattle.delta_op.specs.declared.OpRead.{OpRead}
-use Rattle.delta_op.specs.declared.OpRead.TheVariants.{Bad}
+use Rattle.std.specs.Prelude.{Err, Result}
+use Rattle.delta_op.specs.declared.Op.{Op}
+use Rattle.rules.specs.declared.Refusal.{Refusal}
 use Rattle.delta_op.specs.Places.{tagged_at, op_at}
 use Rattle.delta_op.proofs.read_op.Goals as goal
 
 module _ (l : List ℕ) (at : ℕ) where
-  no-tag : at ≡ length l → Bad (Cut byte_width) ≡ op_at l at
+  no-tag : at ≡ length l → Err (Cut byte_width) ≡ op_at l at
   unfolding op_at
   no-tag e = rw (lt-leb (at + byte_width) (length l) (omega arith))
 
   module _ (h : at ≤ length l) (g : at ≡ length l → ⊥) (tag : ℕ) (e : tag ≡ nat_of (part at byte_width l)) where
-    tagged : (r : OpRead) (k : ℕ) → tag ≡ k → r ≡ tagged_at k l at → r ≡ op_at l at
+    tagged : (r : (Result (Op × ℕ) Refusal)) (k : ℕ) → tag ≡ k → r ≡ tagged_at k l at → r ≡ op_at l at
     unfolding op_at
     tagged r k p q = q ∙ sym (rw (le-leb (at + byte_width) (length l) (omega arith), ← e, p))
 
-    above : (tag ≡ 0 → ⊥) → (tag ≡ 1 → ⊥) → (tag ≡ 2 → ⊥) → Bad BadTag ≡ op_at l at
+    above : (tag ≡ 0 → ⊥) → (tag ≡ 1 → ⊥) → (tag ≡ 2 → ⊥) → Err BadTag ≡ op_at l at
     above a b c =
         let k : ℕ = tag - 3 in
-        tagged (Bad BadTag) (suc (suc (suc k))) (omega arith) refl
+        tagged (Err BadTag) (suc (suc (suc k))) (omega arith) refl
 
 pub returns-then-at-delta : goal.returns-then-at-delta
 returns-then-at-delta c =

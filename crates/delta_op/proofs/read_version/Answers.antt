@@ -13,7 +13,7 @@ use Rattle.rules.specs.declared.Status.{Status}
 use Rattle.rules.specs.declared.Status.TheVariants.{Ttl}
 use Rattle.rules.specs.declared.Refusal.TheVariants.{Cut, BadTag}
 use Rattle.delta_op.specs.declared.Op.TheVariants.{KeyValue}
-use Rattle.delta_op.specs.declared.OpRead.TheVariants.{Got, Bad}
+use Rattle.std.specs.Prelude.{Err, Ok}
 use Rattle.delta_op.specs.Places.{version_at, version_lacks}
 use Rattle.delta_op.proofs.read_version.Goals as goal
 
@@ -21,17 +21,17 @@ abbrev width : ℕ
 width = total version_widths
 
 module _ (l : Bytes) (k n v m : ℕ) (in-l : v + m ≤ length l) where
-  short : (i : ℕ) → length l - (v + m) < width → i ≡ version_lacks (length l - (v + m)) → Bad (Cut i) ≡ version_at l k n v m
+  short : (i : ℕ) → length l - (v + m) < width → i ≡ version_lacks (length l - (v + m)) → Err (Cut i) ≡ version_at l k n v m
   unfolding version_at
   short i h e = rw (e, lt-leb (v + m + width) (length l) (omega arith))
 
   module _ (h : width ≤ length l - (v + m)) (b : ℕ) (e : b ≡ nat_of (part (v + m + offset version_widths 1) byte_width l)) where
-    wrong : status_byte Ttl < b → Bad BadTag ≡ version_at l k n v m
+    wrong : status_byte Ttl < b → Err BadTag ≡ version_at l k n v m
     unfolding version_at
     wrong g = rw (le-leb (v + m + width) (length l) (omega arith), ← e, lt-leb b (status_byte Ttl) g)
 
     whole : (ver : ℕ) (st : Status) → b ≤ status_byte Ttl → ver ≡ nat_of (part (v + m) number_width l) → st ≡ status_of_byte b
-        → Got (KeyValue k n v m ver st) (v + m + width) ≡ version_at l k n v m
+        → (Ok ((KeyValue k n v m ver st), (v + m + width))) ≡ version_at l k n v m
     unfolding version_at
     whole ver st g p q = rw (le-leb (v + m + width) (length l) (omega arith), ← e, le-leb b (status_byte Ttl) g, p, q)
 

@@ -4,12 +4,8 @@ use mathlib.Core.Path.{◌∙◌, ap, sym}
 use native.Mathlib.Omega.{arith}
 use lib.ListN.{length}
 use Rattle.rules.specs.Table.{among}
-use Rattle.digest_write.proofs.Entries.{counts_all, counts-next, counts-none, counts_past, node-long, number_is}
+use Rattle.digest_write.proofs.Entries.{counts_all, counts-next, counts_past, node-long, number_is}
 use Rattle.digest_write.proofs.count_written.Goals as goal
-
-pub loop-i-init : goal.loop-i-init
-loop-i-init c =
-    (c.byte_at-nodes.ensures.0, counts-none _ _)
 
 pub read_u64-number-requires : goal.read_u64-number-requires
 read_u64-number-requires c =

@@ -4,10 +4,6 @@ use Rattle.rules.specs.Layout.{decode}
 use Rattle.digest_write.proofs.Outcomes.{no-edition}
 use Rattle.digest_write.proofs.write_good.Goals as goal
 
-pub write_known-requires : goal.write_known-requires
-write_known-requires c =
-    (c.requires, sym c.is_edition.ensures ∙ c.if-is_edition.true)
-
 pub returns : goal.returns
 returns c =
     let a = c.args in

@@ -44,14 +44,6 @@ pub check_forms-requires : goal.check_forms-requires
 check_forms-requires c =
     valid-laid (area_of c.args.publisher.now) (area-valid c.args.publisher.now c.requires)
 
-pub slice_bounds-check_forms-end-in-Shared : goal.slice_bounds-check_forms-end-in-Shared
-slice_bounds-check_forms-end-in-Shared c =
-    sym (length-take-le table_width c.args.publisher.now (omega (arith, whole_long c.args.publisher.now c.requires)))
-
-pub check_forms-requires-in-Shared : goal.check_forms-requires-in-Shared
-check_forms-requires-in-Shared c =
-    valid-laid (area_of c.args.publisher.now) (area-valid c.args.publisher.now c.requires)
-
 pub returns-in-Free : goal.returns-in-Free
 returns-in-Free c =
     let t = (decode_whole c.args.publisher.now).table in

@@ -1,13 +1,9 @@
 -- `fields::clear` meets its contract: the zeros that are left, put now, give what the contract says. Assumes nothing.
-use Prim.Native.Nat.{◌+◌, ◌-◌, ◌≤◌}
+use Prim.Native.Nat.{◌+◌, ◌-◌}
 use mathlib.Core.Path.{◌≡◌}
-use lib.ListN.{length}
 use Rattle.fields.specs.Blocks.{zeros}
 use Rattle.fields.specs.Parts.{put}
 use Rattle.fields.proofs.clear.Given as goal
 
 abbrev pub invariant-loop-i : goal.invariant-loop-i
-invariant-loop-i l = (l.i ≤ l.n) × (length l.s ≡ length l.initial.s) × (put (l.at + l.i) (zeros (l.n - l.i)) l.s ≡ put l.at (zeros l.n) l.initial.s)
-
-abbrev pub decreases-loop-i : goal.decreases-loop-i
-decreases-loop-i l = l.n - l.i
+invariant-loop-i l = put (l.at + l.i) (zeros (l.n - l.i)) l.s ≡ put l.at (zeros l.n) l.initial.s

@@ -1,11 +1,10 @@
 -- `fields::copy_to` meets its contract: what is left of `src`, put now, gives what the contract says. Assumes nothing.
 use Prim.Native.Nat.{ℕ, ◌+◌, ◌≤◌, ◌<◌}
-use mathlib.Core.Path.{◌≡◌, refl, sym, ◌∙◌}
+use mathlib.Core.Path.{◌≡◌, sym, ◌∙◌}
 use mathlib.Core.List.{List, []}
 use native.Mathlib.Omega.{arith}
-use native.Mathlib.Nat.{add-zero}
 use native.Mathlib.Numerals.{add-one}
-use lib.ListN.{length, get_or, set, drop, length-set, drop_of_length-le}
+use lib.ListN.{length, get_or, set, drop, drop_of_length-le}
 use lib.Seq.{drop-cons}
 use Rattle.fields.specs.Parts.{put}
 use Rattle.fields.proofs.Parts.{put_next, put-nil}
@@ -16,23 +15,12 @@ turn : (src l : List ℕ) (at i : ℕ) (t : List ℕ) → i < length src → at 
 turn src l at i t h g e =
     put_next at i (get_or src i 0) (drop (i + 1) src) l (omega arith) ∙ (rw (drop-cons src i 0 h, ← add-one i) at e)
 
-pub loop-i-init : goal.loop-i-init
-loop-i-init c =
-    (omega arith, refl, rw add-zero refl)
-
 pub loop-i-preserved : goal.loop-i-preserved
 loop-i-preserved c =
     let a = c.args in
-    let inv = c.loop-i.invariant in
-    (omega arith, simp length-set inv.1, turn a.src.now c.loop-i.s a.at c.loop-i.i _ c.loop-i-test.true (omega arith) inv.2)
-
-pub shape_of-s : goal.shape_of-s
-shape_of-s c =
-    c.loop-i.invariant.1
+    turn a.src.now c.loop-i.s a.at c.loop-i.i _ c.loop-i-test.true (omega arith) c.loop-i.invariant
 
 pub returns : goal.returns
 returns c =
-    let inv = c.loop-i.invariant in
-    let a = c.args in
-    let z : drop c.loop-i.i a.src.now ≡ [] = drop_of_length-le a.src.now c.loop-i-test.false in
-    sym (put-nil _ _) ∙ (rw z at inv.2)
+    let z : drop c.loop-i.i c.args.src.now ≡ [] = drop_of_length-le c.args.src.now c.loop-i-test.false in
+    sym (put-nil _ _) ∙ (rw z at c.loop-i.invariant)

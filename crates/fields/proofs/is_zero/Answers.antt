@@ -1,9 +1,8 @@
 -- `fields::is_zero` meets its contract: the bytes passed and those that are left are all zero where the whole is. Assumes nothing.
 use Prim.Native.Nat.{ℕ, suc, ◌+◌, ◌<◌}
-use mathlib.Core.Path.{◌≡◌, refl, sym, ap, ◌∙◌}
+use mathlib.Core.Path.{◌≡◌, sym, ap, ◌∙◌}
 use mathlib.Core.Bool.{Bool, ◌&&◌}
 use mathlib.Core.List.{List}
-use native.Mathlib.Omega.{arith}
 use native.Mathlib.Numerals.{add-one}
 use lib.Bits.{bit_or}
 use lib.Dec.{eqb}
@@ -26,17 +25,13 @@ turn l i d t h e =
     ∙ ap (λ (m : List ℕ). eqb d 0 && all_zero m) (sym (drop-cons l i 0 h))
     ∙ e
 
-pub loop-i-init : goal.loop-i-init
-loop-i-init c =
-    (omega arith, refl)
-
-pub loop-i-preserved : goal.loop-i-preserved
-loop-i-preserved c =
+pub loop-b-preserved : goal.loop-b-preserved
+loop-b-preserved c =
     let s = c.args.s.now in
-    (omega arith, turn s c.loop-i.i c.loop-i.seen (all_zero s) c.loop-i-test.true c.loop-i.invariant.1)
+    turn s c.loop-b.b-index c.loop-b.seen (all_zero s) c.loop-b-test.true c.loop-b.invariant
 
 pub returns : goal.returns
 unfolding all_zero
 returns c =
-    let none = drop_of_length-le c.args.s.now c.loop-i-test.false in
-    sym (and_last (eqb c.loop-i.seen 0)) ∙ (rw none at c.loop-i.invariant.1)
+    let none = drop_of_length-le c.args.s.now c.loop-b-test.false in
+    sym (and_last (eqb c.loop-b.seen 0)) ∙ (rw none at c.loop-b.invariant)

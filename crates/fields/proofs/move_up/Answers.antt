@@ -1,10 +1,10 @@
 -- `fields::move_up` meets its contract: from the last byte down, those that are left to move are not yet written over, and put now they give
 -- what the contract says. Assumes nothing.
 use Prim.Native.Nat.{ℕ, suc, ◌+◌, ◌-◌, ◌≤◌, ◌<◌}
-use mathlib.Core.Path.{◌≡◌, refl, sym, ◌∙◌, subst}
+use mathlib.Core.Path.{◌≡◌, sym, ◌∙◌, subst}
 use mathlib.Core.List.{List}
 use native.Mathlib.Omega.{arith}
-use lib.ListN.{length, get_or, set, length-set}
+use lib.ListN.{length, get_or, set}
 use Rattle.fields.specs.Parts.{part, put}
 use Rattle.fields.proofs.Parts.{put-nil}
 use Rattle.fields.proofs.move_up.Goals as goal
@@ -16,26 +16,13 @@ turn l from to i t h g f e =
     let p : i ≡ suc (i - 1) = omega arith in
     last l from to (i - 1) t g (omega arith) (subst (λ (k : ℕ). put to (part from k l) l ≡ t) p e)
 
-pub loop-i-init : goal.loop-i-init
-loop-i-init c =
-    (omega arith, refl, refl)
-
 pub loop-i-preserved : goal.loop-i-preserved
 loop-i-preserved c =
     let a = c.args in
-    let inv = c.loop-i.invariant in (
-      omega arith,
-      simp length-set inv.1,
-      turn c.loop-i.s a.from a.to c.loop-i.i _ c.loop-i-test.true (omega arith) (omega arith) inv.2,
-    )
-
-pub shape_of-s : goal.shape_of-s
-shape_of-s c =
-    c.loop-i.invariant.1
+    turn c.loop-i.s a.from a.to c.loop-i.i _ c.loop-i-test.true (omega arith) (omega arith) c.loop-i.invariant
 
 pub returns : goal.returns
 unfolding part
 returns c =
-    let inv = c.loop-i.invariant in
     let z : c.loop-i.i ≡ 0 = omega arith in
-    sym (put-nil _ _) ∙ (rw z at inv.2)
+    sym (put-nil _ _) ∙ (rw z at c.loop-i.invariant)

@@ -21,7 +21,4 @@ last l from to j t g f e =
     ∙ e
 
 abbrev pub invariant-loop-i : goal.invariant-loop-i
-invariant-loop-i l = (l.i ≤ l.n) × (length l.s ≡ length l.initial.s) × (put l.to (part l.from l.i l.s) l.s ≡ put l.to (part l.from l.n l.initial.s) l.initial.s)
-
-abbrev pub decreases-loop-i : goal.decreases-loop-i
-decreases-loop-i l = l.i
+invariant-loop-i l = put l.to (part l.from l.i l.s) l.s ≡ put l.to (part l.from l.n l.initial.s) l.initial.s

@@ -1,9 +1,13 @@
--- `fields::rank` meets its contract: the first four bytes go first. Assumes nothing.
-use native.Mathlib.Omega.{arith}
-use Rattle.fields.proofs.Ranks.{rank-add}
+-- `fields::rank` meets its contract: std's reading of eight bytes is the rank. Assumes nothing.
+use mathlib.Core.Path.{ap, ◌∙◌}
+use lib.ListN.{length}
+use Rattle.fields.specs.Order.{rank_of}
+use Rattle.fields.proofs.Parts.{length_part}
+use Rattle.fields.proofs.Ranks.{rank-eight}
 use Rattle.fields.proofs.rank.Goals as goal
 
 pub returns : goal.returns
 returns c =
     let a = c.args in
-    omega (arith, rank-add a.at 4 4 a.s.now (omega arith))
+    let bytes = c.eight.ensures in
+    c.from_be_bytes.ensures ∙ rank-eight _ (ap length bytes ∙ length_part a.at 8 a.s.now c.requires) ∙ ap rank_of bytes

@@ -1,6 +1,6 @@
 -- `fields::same` meets its contract: what was passed and what is left are the same where the wholes are. Assumes nothing.
 use Prim.Native.Nat.{ℕ, suc, ◌+◌, ◌<◌}
-use mathlib.Core.Path.{◌≡◌, refl, sym, ap, ap₂, ◌∙◌}
+use mathlib.Core.Path.{◌≡◌, sym, ap, ap₂, ◌∙◌}
 use mathlib.Core.Bool.{Bool, ◌&&◌}
 use mathlib.Core.List.{List, []}
 use native.Mathlib.Omega.{arith}
@@ -32,15 +32,11 @@ pub returns-then-a-b : goal.returns-then-a-b
 returns-then-a-b c =
     sym (same_length _ _ c.if-a-b.true)
 
-pub loop-i-init : goal.loop-i-init
-loop-i-init c =
-    (omega arith, refl)
-
 pub loop-i-preserved : goal.loop-i-preserved
 loop-i-preserved c =
     let a = c.args in
     let i : ℕ = c.loop-i.i in
-    (omega arith, turn a.a.now a.b.now i c.loop-i.differ _ (omega arith) (omega arith) c.loop-i.invariant.1)
+    turn a.a.now a.b.now i c.loop-i.differ _ (omega arith) (omega arith) c.loop-i.invariant
 
 pub returns : goal.returns
 unfolding same_bytes
@@ -49,4 +45,4 @@ returns c =
     let i : ℕ = c.loop-i.i in
     let none : drop i a.a.now ≡ [] = drop_of_length-le a.a.now {i = i} (omega arith) in
     let none-b : drop i a.b.now ≡ [] = drop_of_length-le a.b.now {i = i} (omega arith) in
-    sym (and_last (eqb c.loop-i.differ 0)) ∙ (rw (none, none-b) at c.loop-i.invariant.1)
+    sym (and_last (eqb c.loop-i.differ 0)) ∙ (rw (none, none-b) at c.loop-i.invariant)

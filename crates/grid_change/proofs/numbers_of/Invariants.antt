@@ -1,5 +1,5 @@
 -- `grid_change::numbers_of` meets its contract: the first places have the numbers, and the others 0. Assumes nothing.
-use Prim.Native.Nat.{◌-◌, ◌≤◌}
+use Prim.Native.Nat.{◌≤◌}
 use mathlib.Core.Path.{◌≡◌}
 use lib.ListN.{length, take}
 use Rattle.fields.specs.Blocks.{fit}
@@ -9,7 +9,8 @@ use Rattle.rules.specs.Layout.{decode}
 use Rattle.grid_change.proofs.numbers_of.Given as goal
 
 abbrev pub invariant-loop-i : goal.invariant-loop-i
-invariant-loop-i l = (l.i ≤ l.n) × (l.n ≤ max_nodes) × (l.n ≡ length (numbers_of (decode l.area))) × (l.numbers ≡ fit max_nodes (take l.i (numbers_of (decode l.area))))
-
-abbrev pub decreases-loop-i : goal.decreases-loop-i
-decreases-loop-i l = l.n - l.i
+invariant-loop-i l = record {
+  few : l.n ≤ max_nodes;
+  many : l.n ≡ length (numbers_of (decode l.area));
+  filled : l.numbers ≡ fit max_nodes (take l.i (numbers_of (decode l.area)));
+}

@@ -1,13 +1,12 @@
 -- `grid_change::set_rows` meets its contract. Assumes nothing.
 use Prim.Native.Nat.{ℕ}
 use mathlib.Core.List.{List}
-use mathlib.Core.Path.{◌∙◌, ap, sym}
+use mathlib.Core.Path.{◌∙◌, ap}
 use native.Mathlib.Omega.{arith}
 use Rattle.fields.proofs.Lent.{seen}
 use Rattle.grid.specs.GridLayout.{row_in, row_width, rows_in, rows_width}
 use Rattle.grid.proofs.GridBytes.{good-grid}
-use lib.ListN.{length, length-set}
-use Rattle.grid.proofs.GridBytes.{length-grid}
+use lib.ListN.{length-set}
 use Rattle.grid_change.proofs.Storing.{rows-set}
 use Rattle.grid_change.proofs.set_rows.Goals as goal
 
@@ -34,10 +33,6 @@ bounds-grid-a c =
 pub store-requires : goal.store-requires
 store-requires c =
     length-set c.args.grid.now _ _ ∙ (good-grid c.args.grid.now c.requires.0).long
-
-pub shape_of-grid : goal.shape_of-grid
-shape_of-grid c =
-    ap length c.store.ensures ∙ length-grid _ ∙ sym (good-grid c.args.grid.now c.requires.0).long
 
 pub returns : goal.returns
 returns c =

@@ -21,18 +21,8 @@ pub slice_bounds-read_row-end : goal.slice_bounds-read_row-end
 slice_bounds-read_row-end c =
     omega (arith, (good-grid c.args.grid.now c.requires.0).long, c.requires.1)
 
-pub told_gcs-requires : goal.told_gcs-requires
-told_gcs-requires c =
-    let l : List ℕ = c.args.grid.now in
-    let v = c.requires.0 in
-    let n : ℕ = c.byte_at-n.result in
-    let row : List ℕ = c.read_row-numbers.result in
-    let nr = c.byte_at-n.ensures.0 in
-    let rr = c.read_row-numbers.ensures ∙ ap row_in (seen 1 row_width l) in
-    few l v n row nr rr
-
-pub told_maxes-requires : goal.told_maxes-requires
-told_maxes-requires c =
+pub rows_told-requires : goal.rows_told-requires
+rows_told-requires c =
     let l : List ℕ = c.args.grid.now in
     let v = c.requires.0 in
     let n : ℕ = c.byte_at-n.result in
@@ -53,5 +43,5 @@ returns c =
     let ds : List NodeDigest = entries_in c.args.digest in
     let cols = columns-are l v n row nr rr in
     c.set_rows.ensures
-    ∙ ap₂ (λ (x y : List ℕ). encode_grid (with_rows c.args.peer 1 x y (decode_grid l))) (c.told_gcs.ensures ∙ ap (row_told (λ d. d.last_gc) ds) cols)
-    (c.told_maxes.ensures ∙ ap (row_told (λ d. d.max) ds) cols)
+    ∙ ap₂ (λ (x y : List ℕ). encode_grid (with_rows c.args.peer 1 x y (decode_grid l))) (c.rows_told.ensures.gcs ∙ ap (row_told (λ d. d.last_gc) ds) cols)
+    (c.rows_told.ensures.maxes ∙ ap (row_told (λ d. d.max) ds) cols)

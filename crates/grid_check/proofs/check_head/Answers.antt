@@ -3,10 +3,8 @@ use Prim.Native.Nat.{ℕ}
 use mathlib.Core.List.{List}
 use mathlib.Core.Path.{◌∙◌, ap, refl, sym}
 use native.Mathlib.Omega.{arith}
-use lib.ListN.{length}
 use Rattle.fields.specs.Parts.{part}
 use Rattle.fields.proofs.Lent.{seen}
-use Rattle.fields.proofs.Parts.{length_part}
 use Rattle.grid.specs.Grid.{max_peers}
 use Rattle.grid.specs.GridLayout.{row_in, row_width}
 use lib.Dec.{leb}
@@ -18,11 +16,6 @@ pub returns-then-n-gt-NODES : goal.returns-then-n-gt-NODES
 returns-then-n-gt-NODES c =
     let g : List ℕ = c.args.grid.now in
     sym (head-many g c.byte_at-n.result (row_in (part 1 row_width g)) c.byte_at-n.ensures.0 refl c.if-n-gt-NODES.true)
-
-pub read_row-numbers-requires : goal.read_row-numbers-requires
-read_row-numbers-requires c =
-    let g : List ℕ = c.args.grid.now in
-    ap length (seen 1 row_width g) ∙ length_part 1 row_width g (omega arith)
 
 pub returns-then-empty_from : goal.returns-then-empty_from
 returns-then-empty_from c =

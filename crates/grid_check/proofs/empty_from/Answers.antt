@@ -1,25 +1,13 @@
--- `grid_check::empty_from` meets its contract: the places from there on. Assumes nothing.
-use mathlib.Core.Path.{◌∙◌, refl, sym}
-use native.Mathlib.Omega.{arith}
-use Rattle.grid_check.proofs.Checked.{zero-end, zero-not, zero-on}
-use borrow.Author.Rules.{rules}
+-- `grid_check::empty_from` meets its contract: each place from there on is tested. Assumes nothing.
+use Rattle.std.proofs.Common.{rules, eqb, drop, ◌∙◌}
+use Rattle.std.proofs.lemmas.Iterator.{YieldsList-from_slice}
+use Rattle.std.proofs.lemmas.Iterator.Adapters.{YieldsList-from_skip}
+use Rattle.std.proofs.lemmas.Iterator.Search.{all_from_yields_List}
+use borrow.Author.Tests.{tests}
+use Rattle.grid_check.proofs.Checked.{zero-is}
 use Rattle.grid_check.proofs.empty_from.Goals as goal
-
-pub loop-j-init : goal.loop-j-init
-loop-j-init c =
-    (search rules, refl)
-
-pub returns-then-row-j-ne0 : goal.returns-then-row-j-ne0
-returns-then-row-j-ne0 c =
-    let l = c.loop-j in
-    sym (zero-not c.args.row l.j (omega arith) c.if-row-j-ne0.true) ∙ l.invariant.1
-
-pub loop-j-preserved : goal.loop-j-preserved
-loop-j-preserved c =
-    let l = c.loop-j in
-    (l.invariant.0, sym (zero-on c.args.row l.j (omega arith) (omega arith)) ∙ l.invariant.1)
 
 pub returns : goal.returns
 returns c =
-    let l = c.loop-j in
-    sym (zero-end c.args.row l.j (omega arith)) ∙ l.invariant.1
+    let a = c.args in
+    all_from_yields_List (λ x. eqb x 0) _ _ c.all.result c.all.ensures.ran (YieldsList-from_skip a.from (YieldsList-from_slice a.row cc) cc) (λ x b q k. search (rules, tests)) ∙ zero-is (drop a.from a.row)

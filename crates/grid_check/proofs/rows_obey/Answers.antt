@@ -1,34 +1,15 @@
--- `grid_check::rows_obey` meets its contract: the rows from there on. Assumes nothing.
-use Prim.Native.Nat.{ℕ}
-use mathlib.Core.Path.{◌∙◌, ap, refl, sym}
-use native.Mathlib.Omega.{arith}
-use lib.ListN.{drop, get_or}
-use mathlib.Core.List.{[]}
+-- `grid_check::rows_obey` meets its contract: each row is tested beside its flag. Assumes nothing.
+use Rattle.std.proofs.Common.{rules, eqb, drop, ◌∙◌}
+use Rattle.std.proofs.lemmas.Iterator.{YieldsList-from_slice, YieldsList-from_zip}
+use Rattle.std.proofs.lemmas.Iterator.Search.{all_from_yields_List}
+use borrow.Author.Tests.{tests}
+use Rattle.fields.specs.Choice.{pick}
 use Rattle.fields.specs.Blocks.{all_zero}
-use Rattle.grid_check.proofs.Checked.{rows_end, rows-not, rows_on}
-use borrow.Author.Rules.{rules}
+use Rattle.grid_check.proofs.Checked.{rows_is}
 use Rattle.grid_check.proofs.rows_obey.Goals as goal
-
-pub loop-x-init : goal.loop-x-init
-loop-x-init c =
-    (omega arith, search rules, refl)
-
-pub loop-x-preserved : goal.loop-x-preserved
-loop-x-preserved c =
-    let a = c.args in
-    let l = c.loop-x in
-    let e = sym (c.empty_from.ensures ∙ ap (λ (k : ℕ). all_zero (drop k (get_or c.args.rows c.loop-x.x []))) c.used.ensures) ∙ c.if-empty_from.true in
-    (omega arith, l.invariant.1, sym (rows_on a.count a.present.now a.rows l.x _ (omega arith) (omega (arith, l.invariant.1)) e) ∙ l.invariant.2)
-
-pub returns-else-empty_from : goal.returns-else-empty_from
-returns-else-empty_from c =
-    let a = c.args in
-    let l = c.loop-x in
-    let e = sym (c.empty_from.ensures ∙ ap (λ (k : ℕ). all_zero (drop k (get_or c.args.rows c.loop-x.x []))) c.used.ensures) ∙ c.if-empty_from.false in
-    sym (rows-not a.count a.present.now a.rows l.x _ (omega arith) (omega (arith, l.invariant.1)) e) ∙ l.invariant.2
 
 pub returns : goal.returns
 returns c =
     let a = c.args in
-    let l = c.loop-x in
-    sym (rows_end a.count a.present.now a.rows l.x (omega arith)) ∙ l.invariant.2
+    all_from_yields_List (λ r. all_zero (drop (pick (eqb r.0 1) a.count 0) r.1)) c.all.new.self _ c.all.result c.all.ensures.ran (YieldsList-from_zip (YieldsList-from_slice a.present.now cc) (YieldsList-from_slice a.rows cc)) (λ x b q k. search (rules, tests))
+    ∙ rows_is a.count a.present.now a.rows

@@ -1,16 +1,6 @@
 -- `heartbeat::offer_node` meets its contract. Assumes nothing.
-use mathlib.Core.Path.{ap, sym, ◌∙◌}
-use Rattle.rules.specs.Local.{yes_no}
 use Rattle.heartbeat.proofs.Beating.{offer-stored, offer-told}
 use Rattle.heartbeat.proofs.offer_node.Goals as goal
-
-pub returns-then-after : goal.returns-then-after
-returns-then-after c =
-    let a = c.args in
-    let h = c.read_header in
-    let o = c.offered-after in
-    let w = c.set_heartbeat in
-    (ap yes_no (sym c.if-after.true) ∙ offer-told a.node.now a.got h.result o.result h.ensures o.ensures, offer-stored a.node.now a.got h.result o.result h.ensures o.ensures w.new.node w.ensures)
 
 pub returns : goal.returns
 returns c =
@@ -18,4 +8,4 @@ returns c =
     let h = c.read_header in
     let o = c.offered-after in
     let w = c.set_heartbeat in
-    (ap yes_no (sym c.if-after.false) ∙ offer-told a.node.now a.got h.result o.result h.ensures o.ensures, offer-stored a.node.now a.got h.result o.result h.ensures o.ensures w.new.node w.ensures)
+    (offer-told a.node.now a.got h.result o.result h.ensures o.ensures, offer-stored a.node.now a.got h.result o.result h.ensures o.ensures w.new.node w.ensures)

@@ -4,7 +4,7 @@ use mathlib.Core.Path.{ap, ◌∙◌}
 use native.Mathlib.Omega.{arith}
 use Rattle.rules.specs.Layout.{rec_width}
 use Rattle.own_rows.specs.declared.Sight.{Sight}
-use Rattle.inspect.specs.declared.Count.TheVariants.{Are}
+use Rattle.std.specs.Prelude.{Ok}
 use Rattle.inspect.proofs.Elements.{own-low}
 use Rattle.inspect.proofs.front_in.Goals as goal
 
@@ -15,4 +15,4 @@ times-requires c =
 
 pub returns : goal.returns
 returns c =
-    ap Are (c.times.ensures ∙ ap (λ (x : Sight). x.low * rec_width) c.sight_of.ensures)
+    ap Ok (c.times.ensures ∙ ap (λ (x : Sight). x.low * rec_width) c.sight_of.ensures)

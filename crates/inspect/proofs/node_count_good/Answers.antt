@@ -2,7 +2,7 @@
 use mathlib.Core.Path.{ap, sym, ◌∙◌}
 use native.Mathlib.Omega.{arith}
 use Rattle.table.proofs.Tables.{valid-long, length-decode}
-use Rattle.inspect.specs.declared.Count.TheVariants as count
+use Rattle.std.specs.Prelude.{Ok}
 use Rattle.inspect.proofs.node_count_good.Goals as goal
 
 pub byte_at-requires : goal.byte_at-requires
@@ -11,4 +11,4 @@ byte_at-requires c =
 
 pub returns : goal.returns
 returns c =
-    ap count.Are (c.byte_at.ensures.0 ∙ sym (length-decode c.args.table.now))
+    ap Ok (c.byte_at.ensures.0 ∙ sym (length-decode c.args.table.now))

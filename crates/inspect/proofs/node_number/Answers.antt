@@ -7,16 +7,16 @@ use Rattle.inspect.proofs.node_number.Goals as goal
 
 pub slice_bounds-node_number_good-end : goal.slice_bounds-node_number_good-end
 slice_bounds-node_number_good-end c =
-    area-long _ c.check_table.ensures c.if-check_table.true
+    area-long _ c.check_table.ensures c.if-not-check_table.false
 
 pub node_number_good-requires : goal.node_number_good-requires
 node_number_good-requires c =
-    area-good _ c.check_table.ensures c.if-check_table.true
+    area-good _ c.check_table.ensures c.if-not-check_table.false
 
-pub returns-then-check_table : goal.returns-then-check_table
-returns-then-check_table c =
+pub returns : goal.returns
+returns c =
     ap node_number_told (search read-good)
 
-pub returns-else-check_table : goal.returns-else-check_table
-returns-else-check_table c =
+pub returns-then-not-check_table : goal.returns-then-not-check_table
+returns-then-not-check_table c =
     ap node_number_told (search read-bad)

@@ -9,7 +9,7 @@ use Rattle.table.specs.Tests.{nodes_of}
 use Rattle.table.proofs.Tables.{valid-long, valid-few}
 use Rattle.table.proofs.Places.{number_at}
 use Rattle.inspect.specs.Look.{number_on}
-use Rattle.inspect.specs.declared.NodeNumber.TheVariants as number
+use Rattle.std.specs.Prelude.{Ok}
 use Rattle.inspect.proofs.Elements.{node-there, no-node-there}
 use Rattle.inspect.proofs.node_number_good.Goals as goal
 
@@ -35,7 +35,7 @@ returns c =
     let l : List ℕ = c.args.table.now in
     let h : c.args.i < nodes_of l = omega (arith, c.byte_at-n.ensures.0) in
     node-there number_on l c.args.i h _
-    (ap number.Is
+    (ap Ok
     (c.read_u64.ensures
     ∙ ap (λ (k : ℕ). nat_of (part k 8 l)) c.node_place.ensures
     ∙ sym (number_at c.args.i l (valid-long l c.requires) (omega (arith, valid-few l c.requires)))))

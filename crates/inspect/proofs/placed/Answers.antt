@@ -5,7 +5,7 @@ use Rattle.fields.specs.Widths.{offset}
 use Rattle.rules.specs.Layout.{rec_widths}
 use Rattle.rules.specs.declared.Record.{Record}
 use Rattle.table_read.proofs.Reading.{rec-fits, rec-read, lent-rec-needs}
-use Rattle.inspect.specs.declared.RecordRead.TheVariants as rec
+use Rattle.std.specs.Prelude.{Ok, Some}
 use Rattle.inspect.proofs.placed.Goals as goal
 
 pub record_of-requires : goal.record_of-requires
@@ -19,5 +19,5 @@ read_record-r-requires c =
 pub returns : goal.returns
 returns c =
     let a = c.args in
-    ap₂ (λ (k : ℕ) (x : Record). rec.Is (a.start + k + offset rec_widths 1) (a.start + k + offset rec_widths 3) x) c.record_place.ensures
+    ap₂ (λ (k : ℕ) (x : Record). (Ok (Some (record { key = (a.start + k + offset rec_widths 1); value = (a.start + k + offset rec_widths 3); «record» = x })))) c.record_place.ensures
     (rec-read a.node.now a.j _ c.record_of.ensures _ c.read_record-r.ensures)

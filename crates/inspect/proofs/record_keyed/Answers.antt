@@ -20,7 +20,7 @@ returns-then-key-gt-KEY c =
 
 pub placed-requires : goal.placed-requires
 placed-requires c =
-    let named : let a = c.args in sees a.profile a.party a.key.now ≡ true = sym c.may_name.ensures ∙ c.if-may_name.true in
+    let named : let a = c.args in sees a.profile a.party a.key.now ≡ true = sym c.may_name.ensures ∙ c.if-not-may_name.false in
     let found : let a = c.args in find_key a.key.now (recs_in a.node.now) ≡ At c.in-At.j = sym c.search_key.ensures ∙ c.in-At.is in
     let a = c.args in
     let j = c.in-At.j in (
@@ -33,24 +33,24 @@ placed-requires c =
 
 pub returns-in-At : goal.returns-in-At
 returns-in-At c =
-    let named : let a = c.args in sees a.profile a.party a.key.now ≡ true = sym c.may_name.ensures ∙ c.if-may_name.true in
+    let named : let a = c.args in sees a.profile a.party a.key.now ≡ true = sym c.may_name.ensures ∙ c.if-not-may_name.false in
     let found : let a = c.args in find_key a.key.now (recs_in a.node.now) ≡ At c.in-At.j = sym c.search_key.ensures ∙ c.in-At.is in
     let a = c.args in
     let j = c.in-At.j in
-    named-reads a.profile a.party a.key.now a.start _ c.if-key-gt-KEY.false c.may_name.ensures c.if-may_name.true _
+    named-reads a.profile a.party a.key.now a.start _ c.if-key-gt-KEY.false c.may_name.ensures c.if-not-may_name.false _
     (c.placed.ensures
     ∙ ap (λ (x : Sight). read_rec a.start (j - x.low) (rec_at j a.node.now)) c.sight_of.ensures
     ∙ key-there a.profile a.party a.key.now a.node.now a.start c.requires.1 c.requires.2 (named) j (found))
 
 pub returns-in-Free : goal.returns-in-Free
 returns-in-Free c =
-    let named : let a = c.args in sees a.profile a.party a.key.now ≡ true = sym c.may_name.ensures ∙ c.if-may_name.true in
+    let named : let a = c.args in sees a.profile a.party a.key.now ≡ true = sym c.may_name.ensures ∙ c.if-not-may_name.false in
     let a = c.args in
-    named-reads a.profile a.party a.key.now a.start _ c.if-key-gt-KEY.false c.may_name.ensures c.if-may_name.true _
+    named-reads a.profile a.party a.key.now a.start _ c.if-key-gt-KEY.false c.may_name.ensures c.if-not-may_name.false _
     (key-nowhere a.profile a.party a.key.now a.node.now a.start c.requires.1 c.requires.2 (named) _
     (sym c.search_key.ensures ∙ c.in-Free.is))
 
-pub returns-else-may_name : goal.returns-else-may_name
-returns-else-may_name c =
+pub returns-then-not-may_name : goal.returns-then-not-may_name
+returns-then-not-may_name c =
     let a = c.args in
-    other-first a.profile a.party a.key.now a.start _ c.if-key-gt-KEY.false c.may_name.ensures c.if-may_name.false
+    other-first a.profile a.party a.key.now a.start _ c.if-key-gt-KEY.false c.may_name.ensures c.if-not-may_name.true

@@ -6,12 +6,12 @@ use Rattle.inspect_text.proofs.find_text.Goals as goal
 
 pub find_text_known-requires : goal.find_text_known-requires
 find_text_known-requires c =
-    sym c.check_table.ensures ∙ c.if-check_table.true
+    sym c.check_table.ensures ∙ c.if-not-check_table.false
 
-pub returns-then-check_table : goal.returns-then-check_table
-returns-then-check_table c =
+pub returns : goal.returns
+returns c =
     ap found_told (search read-good)
 
-pub returns-else-check_table : goal.returns-else-check_table
-returns-else-check_table c =
+pub returns-then-not-check_table : goal.returns-then-not-check_table
+returns-then-not-check_table c =
     ap found_told (search read-bad)

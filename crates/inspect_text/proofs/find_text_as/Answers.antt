@@ -1,38 +1,40 @@
 -- `inspect_text::find_text_as` meets its contract: what the node's bytes say, or 2. Assumes nothing.
+use Rattle.std.specs.Prelude.{None, Some}
+use Rattle.std.proofs.lemmas.Result.{err_from_is_err_and}
+use Rattle.rules.specs.declared.Refusal.TheVariants.{NoNode}
+use native.Mathlib.Omega.{arith}
 use Prim.Native.Nat.{ℕ}
-use mathlib.Core.Path.{◌∙◌}
+use mathlib.Core.Path.{◌≡◌, ◌∙◌}
 use mathlib.Core.Option.{Option}
 use Rattle.rules.specs.Node.{Node}
-use Rattle.table_read.proofs.Reading.{lent-node-needs, node-stands, no-node-stands}
+use Rattle.table_read.proofs.Reading.{lent_fits, lent_below, lent-node-needs, node-stands, no-node-stands}
 use Rattle.own_rows.specs.Sight.{seen_held}
 use Rattle.own_rows.proofs.Tables.{lent-formed, seen-stands}
 use Rattle.inspect_text.specs.Texts.{text_on}
 use Rattle.inspect_text.proofs.find_text_as.Goals as goal
 
-pub slice_bounds-in_node-count : goal.slice_bounds-in_node-count
-slice_bounds-in_node-count c =
-    search lent-node-needs
-
-pub slice_bounds-in_node-start : goal.slice_bounds-in_node-start
-slice_bounds-in_node-start c =
-    search lent-node-needs
+pub returns-in_err-span : goal.returns-in_err-span
+returns-in_err-span c =
+    let a = c.args in
+    let h : c.node_span.result ≡ None = grind arith in
+    let why : c.in_err-span.field-0.0 ≡ NoNode = grind arith in
+    let p = err_from_is_err_and c.from_residual.result c.from_residual.ensures.1 in
+    rw (p.1, p.2, why) (search (no-node-stands (λ (j k : ℕ) (o : Option Node). text_on a.text j k (seen_held a.profile a.party o)) a.j)
+    ∙ seen-stands (text_on a.text) a.j a.profile a.party a.number _)
 
 pub slice_bounds-in_node-end : goal.slice_bounds-in_node-end
 slice_bounds-in_node-end c =
-    search lent-node-needs
+    let h : c.node_span.result ≡ Some c.in_ok-span.span = grind arith in
+    lent_fits _ _ c.requires.0 c.node_span.ensures h
 
 pub in_node-requires : goal.in_node-requires
 in_node-requires c =
-    (search lent-node-needs, search lent-node-needs, search lent-formed, search lent-node-needs)
+    let h : c.node_span.result ≡ Some c.in_ok-span.span = grind arith in
+    (search (h, lent-node-needs), search (h, lent-node-needs), search (h, lent-formed), lent_below _ _ c.requires.0 c.node_span.ensures h)
 
-pub returns-in-Held : goal.returns-in-Held
-returns-in-Held c =
+pub returns : goal.returns
+returns c =
+    let h : c.node_span.result ≡ Some c.in_ok-span.span = grind arith in
     let a = c.args in
-    search (node-stands (λ (j k : ℕ) (o : Option Node). text_on a.text j k (seen_held a.profile a.party o)))
-    ∙ seen-stands (text_on a.text) a.j a.profile a.party a.number _
-
-pub returns-in-Missing : goal.returns-in-Missing
-returns-in-Missing c =
-    let a = c.args in
-    search (no-node-stands (λ (j k : ℕ) (o : Option Node). text_on a.text j k (seen_held a.profile a.party o)) a.j)
+    search (h, node-stands (λ (j k : ℕ) (o : Option Node). text_on a.text j k (seen_held a.profile a.party o)))
     ∙ seen-stands (text_on a.text) a.j a.profile a.party a.number _

@@ -6,42 +6,45 @@ use native.Mathlib.Omega.{arith}
 use native.Mathlib.Nat.{add-zero}
 use lib.ListN.{length}
 use Rattle.lookup.specs.Lookup.{start_of, len_of, Within, Hands, part_of, moved_by}
+use Rattle.std.specs.Prelude.{Err, None, Ok, Option, Result, Some}
 use Rattle.lookup.specs.declared.Found.{Found}
-use Rattle.lookup.specs.declared.Found.TheVariants.{At, Nothing, Refused}
+use Rattle.rules.specs.declared.Refusal.{Refusal}
 use Rattle.lookup.proofs.Values.{refused-stands, same-hands}
 use Rattle.inspect_text.proofs.held_behind.Goals as goal
 
 -- what was told is this
-moved : (l : List ℕ) (m : ℕ) (f g : Found) → f ≡ g → part_of l (moved_by m g) ≡ part_of l (moved_by m f)
-moved l m f g e = ap (λ (x : Found). part_of l (moved_by m x)) (sym e)
+moved : (l : List ℕ) (m : ℕ) (f g : (Result (Option Found) Refusal)) → f ≡ g → part_of l (moved_by m g) ≡ part_of l (moved_by m f)
+moved l m f g e = ap (λ (x : (Result (Option Found) Refusal)). part_of l (moved_by m x)) (sym e)
 
 -- nothing was
-nothing : (l : List ℕ) (m : ℕ) (f g : Found) → start_of (moved_by m g) ≡ 0 → len_of (moved_by m g) ≡ 0 → f ≡ g → (t : ℕ × ℕ) → Hands (part_of l (moved_by m f)) t [] t
+nothing : (l : List ℕ) (m : ℕ) (f g : (Result (Option Found) Refusal)) → start_of (moved_by m g) ≡ 0 → len_of (moved_by m g) ≡ 0 → f ≡ g → (t : ℕ × ℕ) → Hands (part_of l (moved_by m f)) t [] t
 nothing l m f g s n e t =
     same-hands (moved l m f g e) t t []
     (sym (refused-stands l (moved_by m g) s n).1, refl, sym (add-zero t.1) ∙ ap (λ (k : ℕ). t.1 + k) (sym s))
 
 pub overflow_add-start : goal.overflow_add-start
 overflow_add-start c =
-    let fits : let a = c.args in Within (length a.table.now) (At (c.in-At.start + a.front) c.in-At.len) = subst (λ (x : Found). Within (length c.args.table.now) (moved_by c.args.front x)) c.in-At.is c.requires in
-    let f = fits in omega (arith, f)
+    let e : c.args.told ≡ Ok (Some c.in-Ok-Some.field-0-0) = c.in-Ok-Some.is ∙ ap Ok cc in
+    let f = subst (λ (x : (Result (Option Found) Refusal)). Within (length c.args.table.now) (moved_by c.args.front x)) e c.requires in
+    rw e (omega (arith, f))
 
 pub held-requires : goal.held-requires
 held-requires c =
-    let fits : let a = c.args in Within (length a.table.now) (At (c.in-At.start + a.front) c.in-At.len) = subst (λ (x : Found). Within (length c.args.table.now) (moved_by c.args.front x)) c.in-At.is c.requires in
-    fits
+    let e : c.args.told ≡ Ok (Some c.in-Ok-Some.field-0-0) = c.in-Ok-Some.is ∙ ap Ok cc in
+    rw e (subst (λ (x : (Result (Option Found) Refusal)). Within (length c.args.table.now) (moved_by c.args.front x)) e c.requires)
 
-pub returns-in-At : goal.returns-in-At
-returns-in-At c =
-    let a = c.args in
-    same-hands (moved a.table.now a.front a.told (At c.in-At.start c.in-At.len) c.in-At.is) _ _ _ c.held.ensures
+pub returns-in-Ok-Some : goal.returns-in-Ok-Some
+returns-in-Ok-Some c =
+    let e : c.args.told ≡ Ok (Some c.in-Ok-Some.field-0-0) = c.in-Ok-Some.is ∙ ap Ok cc in
+    rw e (rw e at c.held.ensures)
 
-pub returns-in-Nothing : goal.returns-in-Nothing
-returns-in-Nothing c =
+pub returns-in-Ok-None : goal.returns-in-Ok-None
+returns-in-Ok-None c =
     let a = c.args in
-    nothing a.table.now a.front a.told Nothing refl refl c.in-Nothing.is a.table.ref_ptr
+    let e : a.told ≡ Ok None = c.in-Ok-None.is ∙ ap Ok cc in
+    nothing a.table.now a.front a.told (Ok None) refl refl e a.table.ref_ptr
 
-pub returns-in-Refused : goal.returns-in-Refused
-returns-in-Refused c =
+pub returns-in-Err : goal.returns-in-Err
+returns-in-Err c =
     let a = c.args in
-    nothing a.table.now a.front a.told (Refused c.in-Refused.field-0) refl refl c.in-Refused.is a.table.ref_ptr
+    nothing a.table.now a.front a.told (Err c.in-Err.field-0) refl refl c.in-Err.is a.table.ref_ptr

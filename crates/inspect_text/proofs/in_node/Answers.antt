@@ -1,6 +1,8 @@
 -- `inspect_text::in_node` meets its contract: 8, or the length that was read, at the place of the layout. Assumes nothing.
 use Prim.Native.Nat.{ℕ, ◌+◌, ◌<◌}
 use mathlib.Core.Path.{◌≡◌, ap, ap₂, sym, ◌∙◌}
+use mathlib.Core.Bool.{true}
+use mathlib.Core.List.{List}
 use mathlib.Core.Option.{Option}
 use native.Mathlib.Omega.{arith}
 use lib.ListN.{length}
@@ -10,16 +12,30 @@ use Rattle.rules.specs.Layout.{rec_widths, decode_node}
 use Rattle.rules.specs.declared.Record.{Record}
 use Rattle.table.specs.Tests.{count_of}
 use Rattle.table.proofs.Places.{rec_at}
-use Rattle.table_read.specs.Find.{record_of}
 use Rattle.table_read.proofs.Reading.{rec-fits, rec-read}
-use Rattle.own_rows.specs.Sight.{seen_node}
-use Rattle.lookup.specs.declared.Found.TheVariants.{At}
+use Rattle.rules.specs.Profile.{recs_formed}
+use Rattle.rules.specs.Table.{keys_rise}
+use Rattle.rules.specs.declared.Party.{Party}
+use Rattle.rules.specs.declared.Profile.{Profile}
+use Rattle.table.specs.Tests.{recs_in}
+use Rattle.own_rows.specs.Sight.{seen_node, sight_in}
+use Rattle.own_rows.specs.declared.Sight.{Sight}
+use Rattle.std.specs.Prelude.{Ok, Some}
 use Rattle.inspect.specs.Look.{element_at}
 use Rattle.inspect.proofs.Elements.{own-within, rec-there, no-rec-there}
 use Rattle.inspect_text.specs.Texts.{text_of, text_place, place_on}
 use Rattle.inspect_text.specs.declared.Text.{Text}
 use Rattle.inspect_text.specs.declared.Text.TheVariants.{Key, Value}
 use Rattle.inspect_text.proofs.in_node.Goals as goal
+
+-- the text of a record that the party sees, at the place that was told
+module _ (p : Profile) (q : Party) (b : List ℕ) (s : keys_rise (recs_in b) ≡ true) (f : recs_formed p (recs_in b) ≡ true) {i : Sight} (e : i ≡ sight_in p q (recs_in b)) where
+  place-there : (start j : ℕ) → j < i.count → {t : Text} (x : Text) → t ≡ x → {k n : ℕ} → k ≡ text_place x start j → n ≡ length (text_of x (rec_at (i.low + j) b))
+      → (Ok (Some (record { start = k; len = n }))) ≡ place_on t start j (element_at j (seen_node p q (decode_node b).node).recs)
+  place-there start j h x y k n =
+      rec-there p q b s f e (place_on _ start j) j h _
+      (ap₂ (λ (a c : ℕ). Ok (Some (record { start = a; len = c }))) k n
+      ∙ ap (λ (z : Text). Ok (Some (record { start = text_place z start j; len = length (text_of z (rec_at (i.low + j) b)) }))) (sym y))
 
 pub returns-then-sight-j : goal.returns-then-sight-j
 returns-then-sight-j c =
@@ -83,28 +99,14 @@ overflow_add-result-in-Value c =
 
 pub returns-in-Key : goal.returns-in-Key
 returns-in-Key c =
-    let at : ℕ = c.sight_of-sight.result.low + c.args.j in
     let a = c.args in
-    let answer : (x : Text) (k n : ℕ) → a.text ≡ x → k ≡ text_place x a.start a.j → n ≡ length (text_of x (rec_at (at) a.node.now))
-    → At k n ≡ place_on a.text a.start a.j (element_at a.j (seen_node a.profile a.party (decode_node a.node.now).node).recs) = λ x k n y p q.
-    rec-there a.profile a.party a.node.now c.requires.1 c.requires.2 c.sight_of-sight.ensures (place_on a.text a.start a.j) a.j c.if-sight-j.false _
-    (ap₂ At p q
-    ∙ ap (λ (z : Text). At (text_place z a.start a.j) (length (text_of z (rec_at (at) a.node.now)))) (sym y)) in
-    let start : ℕ = c.args.start in
-    let read : c.read_record-r.result ≡ record_of (rec_at (at) c.args.node.now) = rec-read c.args.node.now (at) _ c.record_of.ensures _ c.read_record-r.ensures in
-    answer Key _ c.read_record-r.result.keylen c.in-Key.is
-    (ap (λ (k : ℕ). start + k + offset rec_widths 1) c.record_place.ensures) (ap (λ (r : Record). r.keylen) (read))
+    let read = rec-read a.node.now (c.sight_of-sight.result.low + a.j) _ c.record_of.ensures _ c.read_record-r.ensures in
+    place-there a.profile a.party a.node.now c.requires.1 c.requires.2 c.sight_of-sight.ensures a.start a.j c.if-sight-j.false Key c.in-Key.is
+    (ap (λ (k : ℕ). a.start + k + offset rec_widths 1) c.record_place.ensures) (ap (λ (r : Record). r.keylen) read)
 
 pub returns-in-Value : goal.returns-in-Value
 returns-in-Value c =
-    let at : ℕ = c.sight_of-sight.result.low + c.args.j in
     let a = c.args in
-    let answer : (x : Text) (k n : ℕ) → a.text ≡ x → k ≡ text_place x a.start a.j → n ≡ length (text_of x (rec_at (at) a.node.now))
-    → At k n ≡ place_on a.text a.start a.j (element_at a.j (seen_node a.profile a.party (decode_node a.node.now).node).recs) = λ x k n y p q.
-    rec-there a.profile a.party a.node.now c.requires.1 c.requires.2 c.sight_of-sight.ensures (place_on a.text a.start a.j) a.j c.if-sight-j.false _
-    (ap₂ At p q
-    ∙ ap (λ (z : Text). At (text_place z a.start a.j) (length (text_of z (rec_at (at) a.node.now)))) (sym y)) in
-    let start : ℕ = c.args.start in
-    let read : c.read_record-r.result ≡ record_of (rec_at (at) c.args.node.now) = rec-read c.args.node.now (at) _ c.record_of.ensures _ c.read_record-r.ensures in
-    answer Value _ c.read_record-r.result.valuelen c.in-Value.is
-    (ap (λ (k : ℕ). start + k + offset rec_widths 3) c.record_place.ensures) (ap (λ (r : Record). r.valuelen) (read))
+    let read = rec-read a.node.now (c.sight_of-sight.result.low + a.j) _ c.record_of.ensures _ c.read_record-r.ensures in
+    place-there a.profile a.party a.node.now c.requires.1 c.requires.2 c.sight_of-sight.ensures a.start a.j c.if-sight-j.false Value c.in-Value.is
+    (ap (λ (k : ℕ). a.start + k + offset rec_widths 3) c.record_place.ensures) (ap (λ (r : Record). r.valuelen) read)

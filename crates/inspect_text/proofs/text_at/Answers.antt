@@ -10,18 +10,18 @@ use Rattle.inspect_text.proofs.text_at.Goals as goal
 
 pub text_known-requires : goal.text_known-requires
 text_known-requires c =
-    sym c.check_table.ensures ∙ c.if-check_table.true
+    sym c.check_table.ensures ∙ c.if-not-check_table.false
 
-pub returns-then-check_table : goal.returns-then-check_table
-returns-then-check_table c =
+pub returns : goal.returns
+returns c =
     let a = c.args in
     let rule = text_part (decode_whole a.table.now).kind.profile a.party a.text a.number a.j in
-    same-hands (read-good nothing_held rule a.table.now c.check_table.ensures c.if-check_table.true _ refl) _ _ _
+    same-hands (read-good nothing_held rule a.table.now c.check_table.ensures c.if-not-check_table.false _ refl) _ _ _
     c.text_known.ensures
 
-pub returns-else-check_table : goal.returns-else-check_table
-returns-else-check_table c =
+pub returns-then-not-check_table : goal.returns-then-not-check_table
+returns-then-not-check_table c =
     let a = c.args in
     let rule = text_part (decode_whole a.table.now).kind.profile a.party a.text a.number a.j in
-    same-hands (read-bad nothing_held rule a.table.now c.check_table.ensures c.if-check_table.false) _ _ _
+    same-hands (read-bad nothing_held rule a.table.now c.check_table.ensures c.if-not-check_table.true) _ _ _
     (refl, refl, sym (add-zero a.table.ref_ptr.1))

@@ -4,7 +4,8 @@ use mathlib.Core.Path.{ap, subst, ◌∙◌}
 use mathlib.Core.List.{List}
 use Rattle.rules.specs.Answers.{answer_told}
 use Rattle.rules.specs.Given.{Given, Tells}
-use Rattle.rules.specs.declared.Answer.{Answer}
+use Rattle.std.specs.Prelude.{Result}
+use Rattle.rules.specs.declared.Refusal.{Refusal}
 use Rattle.local.proofs.Asking.{number-lent}
 use Rattle.answers.specs.Shown.{number_shown}
 use Rattle.library.proofs.kev_write.Goals as goal
@@ -16,5 +17,5 @@ returns c =
     let s = c.wanted in
     let w = c.write in
     let q = number-lent b.result a.value.now a.clock a.number a.key.now a.wanted s.result s.ensures a.table.now in
-    let e = rw b.ensures at (subst (λ (o : Given Answer (List ℕ)). Tells answer_told o w.result w.new.table) q w.ensures) in
+    let e = rw b.ensures at (subst (λ (o : Given (Result (Unit {0}) Refusal) (List ℕ)). Tells answer_told o w.result w.new.table) q w.ensures) in
     (c.number.ensures ∙ ap number_shown e.0, e.1)

@@ -4,7 +4,8 @@ use mathlib.Core.Path.{ap, subst, ◌∙◌}
 use mathlib.Core.List.{List}
 use Rattle.rules.specs.Answers.{answer_told}
 use Rattle.rules.specs.Given.{Given, Tells}
-use Rattle.rules.specs.declared.Answer.{Answer}
+use Rattle.std.specs.Prelude.{Result}
+use Rattle.rules.specs.declared.Refusal.{Refusal}
 use Rattle.answers.specs.Shown.{number_shown}
 use Rattle.library.proofs.Numbers.{number-override}
 use Rattle.library.proofs.kev_write_override.Goals as goal
@@ -15,5 +16,5 @@ returns c =
     let s = c.wanted in
     let w = c.write_override in
     let q = number-override a.value.now a.clock a.key.now a.wanted s.result s.ensures a.overrides.now in
-    let e = subst (λ (o : Given Answer (List ℕ)). Tells answer_told o w.result w.new.overrides) q w.ensures in
+    let e = subst (λ (o : Given (Result (Unit {0}) Refusal) (List ℕ)). Tells answer_told o w.result w.new.overrides) q w.ensures in
     (c.number.ensures ∙ ap number_shown e.0, e.1)

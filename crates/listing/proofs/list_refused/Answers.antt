@@ -5,11 +5,12 @@ use mathlib.Core.List.{List}
 use borrow.Author.Tests.{eq-eqb, ne_eqb}
 use Rattle.rules.specs.Given.{Gives}
 use Rattle.rules.specs.Digest.{write_bytes}
-use Rattle.rules.specs.declared.Written.{Written}
+use Rattle.std.specs.Prelude.{Result}
+use Rattle.rules.specs.declared.Refusal.{Refusal}
 use Rattle.listing.specs.Shapes.{cut_text, fault_text, refused_text}
 use Rattle.listing.proofs.list_refused.Goals as goal
 
-module _ (code at need : ℕ) (out left : List ℕ) (r : Written) where
+module _ (code at need : ℕ) (out left : List ℕ) (r : (Result ℕ Refusal)) where
   of_cut : code ≡ 9 → Gives (write_bytes (cut_text code at need) 0 out) r left → Gives (write_bytes (refused_text code at need) 0 out) r left
   of_cut e h = rw (eq-eqb code 9 e) h
 

@@ -8,12 +8,12 @@ pub returns-then-not-starts_with : goal.returns-then-not-starts_with
 returns-then-not-starts_with c =
     no_word (ascii " gc=") (after_gc c.args.number) c.args.text.now _ c.starts_with.ensures _ c.if-not-starts_with.true
 
-pub returns-in-Not : goal.returns-in-Not
-returns-in-Not c =
+pub returns-in_default : goal.returns-in_default
+returns-in_default c =
     word-no-number (ascii " gc=") (after_gc c.args.number) c.args.text.now _ c.starts_with.ensures _ c.if-not-starts_with.false c.behind-rest.ensures _
-    c.number-read.ensures _ c.in-Not.is
+    c.number.ensures _ c.in_default.is
 
-pub returns-in-Is : goal.returns-in-Is
-returns-in-Is c =
+pub returns : goal.returns
+returns c =
     word_number (ascii " gc=") (after_gc c.args.number) c.args.text.now _ c.starts_with.ensures _ c.if-not-starts_with.false c.behind-rest.ensures _
-    c.number-read.ensures _ _ _ _ _ c.in-Is.is c.behind.ensures c.after_gc.ensures
+    c.number.ensures _ _ _ _ c.in-Some.is c.behind.ensures c.after_gc.ensures

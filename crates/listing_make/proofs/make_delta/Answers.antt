@@ -1,54 +1,39 @@
 -- `listing_make::make_delta` meets its contract: the steps through the whole text, then by their answer. Assumes nothing.
-use Prim.Native.Nat.{ℕ, ◌<◌}
-use mathlib.Core.List.{List}
+use Prim.Native.Nat.{◌<◌}
+use mathlib.Core.Path.{◌≡◌}
 use native.Mathlib.Omega.{arith}
 use lib.ListN.{length, length-replicate, replicate}
+use Rattle.fields.specs.Numbers.{Bytes}
+use Rattle.rules.specs.Given.{Gives}
 use Rattle.rules.specs.Sizes.{numbers}
 use Rattle.listing_read.specs.Unlist.{unlist}
-use Rattle.delta_make.specs.Making.{Outcome}
-use Rattle.listing_make.proofs.Placing.{made_bytes, made_fault, made-line, made-within, outcome}
+use Rattle.delta_make.specs.Making.{Outcome, both, finished, kept, started, taken_in}
+use Rattle.delta_make.specs.declared.Making.{Making}
+use Rattle.delta_make.specs.declared.NotMade.{NotMade}
+use Rattle.std.specs.Prelude.{Result, ℕ}
+use Rattle.std.proofs.lemmas.Result.{err_from_is_err_and}
+use Rattle.listing_make.proofs.Placing.{made_bytes, made-within, not-made, outcome}
 use Rattle.listing_make.proofs.make_delta.Goals as goal
+
+-- the call's own memory is long enough
+told : (t : Bytes) (begun m : Making) (line delta : Bytes) (r : Result ℕ NotMade) → length t < numbers → begun ≡ started
+    → Gives (taken_in t (kept begun (replicate 349 0) (replicate 16384 0))) m (both line delta) → r ≡ finished m delta → Outcome (unlist t) r delta
+told t begun m line delta r h e g f =
+    outcome t (replicate 349 0) (replicate 16384 0) begun m line delta r h
+    (omega (arith, length-replicate {A = ℕ} 349 0)) (omega (arith, length-replicate {A = ℕ} 16384 0)) e g f
 
 pub place-requires : goal.place-requires
 place-requires c =
-    let delta-left : List ℕ = c.take_in-making.new.delta in
-    let told : Outcome (unlist c.args.text.now) c.finish-made.result (delta-left) = let small : length c.args.text.now < numbers = omega arith in
-    outcome c.args.text.now (replicate 349 0) (replicate 16384 0) c.start.result c.take_in-making.result
-    c.take_in-making.new.line (delta-left) c.finish-made.result small
-    (omega (arith, length-replicate {A = ℕ} 349 0))
-    (omega (arith, length-replicate {A = ℕ} 16384 0))
-    c.start.ensures c.take_in-making.ensures c.finish-made.ensures in
-    made-within (unlist c.args.text.now) _ (delta-left) c.args.out.now (told) _ c.in-Bytes.is
+    let o = told c.args.text.now _ _ _ _ _ (omega arith) c.start.ensures c.take_in-making.ensures c.finish.ensures in
+    made-within _ _ _ c.args.out.now o _ c.in_ok-n.was
 
-pub returns-in-Bytes : goal.returns-in-Bytes
-returns-in-Bytes c =
-    let delta-left : List ℕ = c.take_in-making.new.delta in
-    let told : Outcome (unlist c.args.text.now) c.finish-made.result (delta-left) = let small : length c.args.text.now < numbers = omega arith in
-    outcome c.args.text.now (replicate 349 0) (replicate 16384 0) c.start.result c.take_in-making.result
-    c.take_in-making.new.line (delta-left) c.finish-made.result small
-    (omega (arith, length-replicate {A = ℕ} 349 0))
-    (omega (arith, length-replicate {A = ℕ} 16384 0))
-    c.start.ensures c.take_in-making.ensures c.finish-made.ensures in
-    made_bytes (unlist c.args.text.now) _ (delta-left) c.args.out.now (told) _ _ _ c.in-Bytes.is c.place.ensures
+pub returns-in_err-n : goal.returns-in_err-n
+returns-in_err-n c =
+    let o = told c.args.text.now _ _ _ _ _ (omega arith) c.start.ensures c.take_in-making.ensures c.finish.ensures in
+    let p = err_from_is_err_and c.from_residual.result c.from_residual.ensures.1 in
+    rw (p.1, p.2) (not-made _ _ _ c.args.out.now o _ c.in_err-n.was)
 
-pub returns-in-BadLine : goal.returns-in-BadLine
-returns-in-BadLine c =
-    let delta-left : List ℕ = c.take_in-making.new.delta in
-    let told : Outcome (unlist c.args.text.now) c.finish-made.result (delta-left) = let small : length c.args.text.now < numbers = omega arith in
-    outcome c.args.text.now (replicate 349 0) (replicate 16384 0) c.start.result c.take_in-making.result
-    c.take_in-making.new.line (delta-left) c.finish-made.result small
-    (omega (arith, length-replicate {A = ℕ} 349 0))
-    (omega (arith, length-replicate {A = ℕ} 16384 0))
-    c.start.ensures c.take_in-making.ensures c.finish-made.ensures in
-    made-line (unlist c.args.text.now) _ (delta-left) c.args.out.now (told) _ c.in-BadLine.is
-
-pub returns-in-Refused : goal.returns-in-Refused
-returns-in-Refused c =
-    let delta-left : List ℕ = c.take_in-making.new.delta in
-    let told : Outcome (unlist c.args.text.now) c.finish-made.result (delta-left) = let small : length c.args.text.now < numbers = omega arith in
-    outcome c.args.text.now (replicate 349 0) (replicate 16384 0) c.start.result c.take_in-making.result
-    c.take_in-making.new.line (delta-left) c.finish-made.result small
-    (omega (arith, length-replicate {A = ℕ} 349 0))
-    (omega (arith, length-replicate {A = ℕ} 16384 0))
-    c.start.ensures c.take_in-making.ensures c.finish-made.ensures in
-    made_fault (unlist c.args.text.now) _ (delta-left) c.args.out.now (told) _ _ c.in-Refused.is
+pub returns : goal.returns
+returns c =
+    let o = told c.args.text.now _ _ _ _ _ (omega arith) c.start.ensures c.take_in-making.ensures c.finish.ensures in
+    made_bytes _ _ _ c.args.out.now o _ _ _ c.in_ok-n.was c.place.ensures

@@ -18,4 +18,4 @@ room = le_of_eq (sym (length-replicate {A = ℕ} longest_listing 0))
 
 pub unreachable-requires : goal.unreachable-requires
 unreachable-requires g c =
-    absurd (front_fits _ buffer room _ (sym (same-written _ _ c.list_delta-listed.ensures.0) ∙ c.in-Refused.is))
+    absurd (front_fits _ buffer room _ (sym (same-written _ _ c.list_delta-listed.ensures.0) ∙ c.in-Err.is))

@@ -16,10 +16,6 @@ turn left n k h g e =
 last : (left : ℕ) → left < 10 → length (decimal left) ≡ 1
 last left h = ap length (decimal-one left h)
 
-pub loop-left-init : goal.loop-left-init
-loop-left-init c =
-    (omega arith, omega arith)
-
 pub overflow_add-n : goal.overflow_add-n
 overflow_add-n c =
     omega (arith, decimal-long c.args.v)

@@ -1,6 +1,6 @@
 -- `listing_text::put_shown` meets its contract: what is left of the text, put now as it is shown, gives what the contract says. Assumes nothing.
 use Prim.Native.Nat.{ℕ, ◌+◌, ◌≤◌, ◌<◌}
-use mathlib.Core.Path.{◌≡◌, refl, ap, sym, ◌∙◌}
+use mathlib.Core.Path.{◌≡◌, ap, sym, ◌∙◌}
 use mathlib.Core.List.{List, []}
 use native.Mathlib.Omega.{arith}
 use lib.ListN.{length, get_or, drop, length-append, drop_of_length-le}
@@ -44,26 +44,18 @@ done l out out₀ at n i g e p =
     let z : shown_bytes (drop i l) ≡ [] = ap shown_bytes (drop_of_length-le l g) in
     (omega (arith, ap length z), sym (put-nil n out) ∙ ap (λ (x : List ℕ). put n x out) (sym z) ∙ p)
 
-pub loop-i-init : goal.loop-i-init
-loop-i-init c =
-    (refl, refl, refl)
-
 pub put_byte-n-requires : goal.put_byte-n-requires
 put_byte-n-requires c =
-    let q = c.loop-i in
-    room c.args.text.now q.out q.n q.i _ c.loop-i-test.true q.invariant.1 (omega (arith, c.requires, q.invariant.0))
+    let q = c.loop-b in
+    room c.args.text.now q.out q.n q.b-index _ c.loop-b-test.true q.invariant.1 (omega (arith, c.requires, q.invariant.0))
 
-pub loop-i-preserved : goal.loop-i-preserved
-loop-i-preserved c =
-    let q = c.loop-i in
-    let t = again c.args.text.now q.out q.n q.i _ c.loop-i-test.true q.invariant.1 (omega (arith, c.requires, q.invariant.0)) _ _ _
+pub loop-b-preserved : goal.loop-b-preserved
+loop-b-preserved c =
+    let q = c.loop-b in
+    let t = again c.args.text.now q.out q.n q.b-index _ c.loop-b-test.true q.invariant.1 (omega (arith, c.requires, q.invariant.0)) _ _ _
     c.put_byte-n.ensures q.invariant.2 in
     (t.0 ∙ q.invariant.0, t.1, t.2)
 
-pub shape_of-out : goal.shape_of-out
-shape_of-out c =
-    c.loop-i.invariant.0
-
 pub returns : goal.returns
 returns c =
-    let inv = c.loop-i.invariant in done _ _ _ _ _ _ c.loop-i-test.false inv.1 inv.2
+    let inv = c.loop-b.invariant in done _ _ _ _ _ _ c.loop-b-test.false inv.1 inv.2

@@ -16,20 +16,16 @@ done : (l : List ℕ) (i n : ℕ) → length l ≤ i → n + length (shown_bytes
 unfolding shown_bytes
 done l i n g e = let z = ap (λ (r : List ℕ). length (shown_bytes r)) (drop_of_length-le l g) in omega (arith, z)
 
-pub loop-i-init : goal.loop-i-init
-loop-i-init c =
-    omega arith
-
 pub overflow_add-n : goal.overflow_add-n
 overflow_add-n c =
-    let q = c.loop-i in
+    let q = c.loop-b in
     let l = c.args.text.now in
-    omega (arith, turn l q.i q.n _ c.loop-i-test.true c.byte_len-n.ensures q.invariant, shown-long l, c.requires)
+    omega (arith, turn l q.b-index q.n _ c.loop-b-test.true c.byte_len-n.ensures q.invariant, shown-long l, c.requires)
 
-pub loop-i-preserved : goal.loop-i-preserved
-loop-i-preserved c =
-    turn _ _ _ _ c.loop-i-test.true c.byte_len-n.ensures c.loop-i.invariant
+pub loop-b-preserved : goal.loop-b-preserved
+loop-b-preserved c =
+    turn _ _ _ _ c.loop-b-test.true c.byte_len-n.ensures c.loop-b.invariant
 
 pub returns : goal.returns
 returns c =
-    done _ _ _ c.loop-i-test.false c.loop-i.invariant
+    done _ _ _ c.loop-b-test.false c.loop-b.invariant

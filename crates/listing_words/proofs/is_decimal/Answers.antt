@@ -24,13 +24,11 @@ put_decimal-n-requires c =
 
 pub slice_bounds-own-end : goal.slice_bounds-own-end
 slice_bounds-own-end c =
-    let within : c.put_decimal-n.result ≤ length c.put_decimal-n.new.out = put-within (decimal c.args.value) own _ _ (room c.args.value) c.put_decimal-n.ensures in
-    within
+    put-within (decimal c.args.value) own _ _ (room c.args.value) c.put_decimal-n.ensures
 
 pub slice_bounds-is_same-end : goal.slice_bounds-is_same-end
 slice_bounds-is_same-end c =
-    let within : c.put_decimal-n.result ≤ length c.put_decimal-n.new.out = put-within (decimal c.args.value) own _ _ (room c.args.value) c.put_decimal-n.ensures in
-    sym (length-take-le _ _ (within))
+    sym (length-take-le _ _ (put-within (decimal c.args.value) own _ _ (room c.args.value) c.put_decimal-n.ensures))
 
 pub returns : goal.returns
 returns c =

@@ -24,13 +24,11 @@ put_shown-n-requires c =
 
 pub slice_bounds-shown-end : goal.slice_bounds-shown-end
 slice_bounds-shown-end c =
-    let within : c.put_shown-n.result ≤ length c.put_shown-n.new.out = put-within (shown_bytes c.args.text.now) own _ _ (room c.args.text.now c.requires) c.put_shown-n.ensures in
-    within
+    put-within (shown_bytes c.args.text.now) own _ _ (room c.args.text.now c.requires) c.put_shown-n.ensures
 
 pub slice_bounds-is_same-end : goal.slice_bounds-is_same-end
 slice_bounds-is_same-end c =
-    let within : c.put_shown-n.result ≤ length c.put_shown-n.new.out = put-within (shown_bytes c.args.text.now) own _ _ (room c.args.text.now c.requires) c.put_shown-n.ensures in
-    sym (length-take-le _ _ (within))
+    sym (length-take-le _ _ (put-within (shown_bytes c.args.text.now) own _ _ (room c.args.text.now c.requires) c.put_shown-n.ensures))
 
 pub returns : goal.returns
 returns c =

@@ -8,14 +8,6 @@ pub profile_of-requires : goal.profile_of-requires
 profile_of-requires c =
     whole_long c.args.table.now c.requires
 
-pub returns-in-Free : goal.returns-in-Free
-returns-in-Free c =
-    ap is_shared (sym c.in-Free.is ∙ c.profile_of.ensures)
-
-pub returns-in-Meter : goal.returns-in-Meter
-returns-in-Meter c =
-    ap is_shared (sym c.in-Meter.is ∙ c.profile_of.ensures)
-
 pub returns-in-Shared : goal.returns-in-Shared
 returns-in-Shared c =
     ap is_shared (sym c.in-Shared.is ∙ c.profile_of.ensures)

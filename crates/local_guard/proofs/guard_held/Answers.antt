@@ -23,7 +23,7 @@ not-below a b x y p q h = omega arith
 
 pub returns-then-is_hidden : goal.returns-then-is_hidden
 returns-then-is_hidden c =
-    let is : c.is_hidden.result ≡ hidden (decode_rec c.args.«record».now).kv.status = c.is_hidden.ensures ∙ ap (λ (h : Record). hidden h.status) c.read_record-held.ensures in
+    let is : c.is_hidden.result ≡ hidden (decode_rec c.args.«record».now).kv.status = c.is_hidden.ensures ∙ ap (λ (h : Record). hidden h.status) c.read_record.ensures in
     let a = c.args in
     hidden-passes _ (numeral 0 a.value.now) (numeral 0 (decode_rec a.«record».now).kv.value) (sym (is) ∙ c.if-is_hidden.true)
 
@@ -39,14 +39,14 @@ number_of-requires-2 c =
 
 pub returns-then-number_of : goal.returns-then-number_of
 returns-then-number_of c =
-    let is : c.is_hidden.result ≡ hidden (decode_rec c.args.«record».now).kv.status = c.is_hidden.ensures ∙ ap (λ (h : Record). hidden h.status) c.read_record-held.ensures in
+    let is : c.is_hidden.result ≡ hidden (decode_rec c.args.«record».now).kv.status = c.is_hidden.ensures ∙ ap (λ (h : Record). hidden h.status) c.read_record.ensures in
     let ours : c.number_of.result ≡ numeral 0 c.args.value.now = c.number_of.ensures in
     let theirs : c.number_of-2.result ≡ numeral 0 (decode_rec c.args.«record».now).kv.value = c.number_of-2.ensures ∙ ap (numeral 0) c.value_of.ensures in
     smaller-refused _ _ _ (sym (is) ∙ c.if-is_hidden.false) (below _ _ _ _ (ours) (theirs) c.if-number_of.true)
 
 pub returns : goal.returns
 returns c =
-    let is : c.is_hidden.result ≡ hidden (decode_rec c.args.«record».now).kv.status = c.is_hidden.ensures ∙ ap (λ (h : Record). hidden h.status) c.read_record-held.ensures in
+    let is : c.is_hidden.result ≡ hidden (decode_rec c.args.«record».now).kv.status = c.is_hidden.ensures ∙ ap (λ (h : Record). hidden h.status) c.read_record.ensures in
     let ours : c.number_of.result ≡ numeral 0 c.args.value.now = c.number_of.ensures in
     let theirs : c.number_of-2.result ≡ numeral 0 (decode_rec c.args.«record».now).kv.value = c.number_of-2.ensures ∙ ap (numeral 0) c.value_of.ensures in
     greater-passes _ _ _ (sym (is) ∙ c.if-is_hidden.false) (not-below _ _ _ _ (ours) (theirs) c.if-number_of.false)

@@ -1,58 +1,37 @@
 -- `local_guard::guard_meter` meets its contract: the node's part is lent, or the node is missing. Assumes nothing.
-use Prim.Native.Nat.{ℕ}
-use mathlib.Core.Bool.{true}
-use mathlib.Core.List.{List}
 use mathlib.Core.Option.{Option}
-use mathlib.Core.Path.{◌≡◌, ◌∙◌, ap, sym, subst}
-use native.Mathlib.Omega.{arith}
-use Rattle.rules.specs.Layout.{decode}
 use Rattle.rules.specs.Node.{Node}
-use Rattle.rules.specs.Profile.{guard_at, guard_in, recs_formed}
-use Rattle.rules.specs.Table.{keys_rise}
+use Rattle.rules.specs.Profile.{guard_in}
 use Rattle.rules.specs.declared.Party.TheVariants.{Nobody}
 use Rattle.rules.specs.declared.Profile.TheVariants.{Meter}
-use Rattle.rules.proofs.Formed.{node-formed}
-use Rattle.table.specs.Fits.{LaidNode}
-use Rattle.table.specs.Tests.{recs_in}
-use Rattle.table_read.specs.Find.{span_in}
-use Rattle.table_read.specs.declared.Span.TheVariants.{Held}
-use Rattle.table_read.proofs.Held.{held-laid, held-node, held-rises, missing-node, node_end, node-fits, node_seen}
+use Rattle.table_read.proofs.Reading.{lent-node-needs, lent_fits, node-says, no-node-says}
+use Rattle.own_rows.proofs.Tables.{lent-formed}
 use Rattle.local_node.specs.Writes.{call_of}
 use Rattle.local_guard.specs.Guarding.{guarded_by}
 use Rattle.local_guard.proofs.guard_meter.Goals as goal
 
 pub slice_bounds-guard_node-count : goal.slice_bounds-guard_node-count
 slice_bounds-guard_node-count c =
-    let held : span_in c.args.number c.args.table.now ≡ Held c.in-Held.start c.in-Held.end = sym c.node_span.ensures ∙ c.in-Held.is in
-    omega (arith, node_end _ _ c.requires.0 (held))
+    search lent-node-needs
 
 pub slice_bounds-guard_node-start : goal.slice_bounds-guard_node-start
 slice_bounds-guard_node-start c =
-    let held : span_in c.args.number c.args.table.now ≡ Held c.in-Held.start c.in-Held.end = sym c.node_span.ensures ∙ c.in-Held.is in
-    omega (arith, node_end _ _ c.requires.0 (held))
+    search lent-node-needs
 
 pub slice_bounds-guard_node-end : goal.slice_bounds-guard_node-end
 slice_bounds-guard_node-end c =
-    let held : span_in c.args.number c.args.table.now ≡ Held c.in-Held.start c.in-Held.end = sym c.node_span.ensures ∙ c.in-Held.is in
-    node-fits _ _ c.requires.0 (held)
+    lent_fits _ _ c.requires.0 c.node_span.ensures c.in-Some.is
 
 pub guard_node-requires : goal.guard_node-requires
 guard_node-requires c =
-    let held : span_in c.args.number c.args.table.now ≡ Held c.in-Held.start c.in-Held.end = sym c.node_span.ensures ∙ c.in-Held.is in
-    let v = c.requires.0 in
-    subst (λ (b : List ℕ). LaidNode b × (keys_rise (recs_in b) ≡ true) × (recs_formed Meter (recs_in b) ≡ true)) (sym (node_seen _ _ v (held)))
-    (held-laid _ _ v (held), held-rises _ _ v (held), node-formed Meter c.args.number (decode c.args.table.now) c.requires.1 (held-node _ _ v (held)))
+    (search lent-node-needs, search lent-node-needs, search lent-formed)
 
-pub returns-in-Held : goal.returns-in-Held
-returns-in-Held c =
-    let held : span_in c.args.number c.args.table.now ≡ Held c.in-Held.start c.in-Held.end = sym c.node_span.ensures ∙ c.in-Held.is in
+pub returns-in-Some : goal.returns-in-Some
+returns-in-Some c =
     let a = c.args in
-    let v = c.requires.0 in
-    c.guard_node.ensures
-    ∙ ap (λ (b : List ℕ). guarded_by (guard_at Meter Nobody (call_of a.kind a.value.now 0) a.key.now (recs_in b))) (node_seen _ _ v (held))
-    ∙ sym (ap (λ (o : Option Node). guarded_by (guard_in Meter Nobody (call_of a.kind a.value.now 0) a.key.now o)) (held-node _ _ v (held)))
+    search (node-says (λ (o : Option Node). guarded_by (guard_in Meter Nobody (call_of a.kind a.value.now 0) a.key.now o)))
 
-pub returns-in-Missing : goal.returns-in-Missing
-returns-in-Missing c =
+pub returns-in-None : goal.returns-in-None
+returns-in-None c =
     let a = c.args in
-    sym (ap (λ (o : Option Node). guarded_by (guard_in Meter Nobody (call_of a.kind a.value.now 0) a.key.now o)) (missing-node _ _ c.requires.0 (sym c.node_span.ensures ∙ c.in-Missing.is)))
+    search (no-node-says (λ (o : Option Node). guarded_by (guard_in Meter Nobody (call_of a.kind a.value.now 0) a.key.now o)))

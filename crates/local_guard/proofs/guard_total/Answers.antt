@@ -54,14 +54,14 @@ returns-in-At c =
     let b : List ℕ = a.node.now in
     c.guard_held.ensures
     ∙ ap (λ (x : List ℕ). by_total (not (hidden (decode_rec x).kv.status) && ltb (numeral 0 a.value.now) (numeral 0 (decode_rec x).kv.value))) c.record_of.ensures
-    ∙ that-record (bringing a.key.now a.value.now a.status) c.same.ensures c.if-same.true _ (rec_at _ b) (rec-found b a.key.now _ (stands))
+    ∙ that-record (bringing a.key.now a.value.now a.status) c.same.ensures c.if-not-same.false _ (rec_at _ b) (rec-found b a.key.now _ (stands))
 
 pub returns-in-Free : goal.returns-in-Free
 returns-in-Free c =
     let a = c.args in
     no_record (bringing a.key.now a.value.now a.status) _ (rec-missing a.node.now a.key.now _ c.requires.1 (sym c.search_key.ensures ∙ c.in-Free.is))
 
-pub returns : goal.returns
-returns c =
+pub returns-then-not-same : goal.returns-then-not-same
+returns-then-not-same c =
     let a = c.args in
-    other_key (bringing a.key.now a.value.now a.status) c.same.ensures c.if-same.false _
+    other_key (bringing a.key.now a.value.now a.status) c.same.ensures c.if-not-same.true _

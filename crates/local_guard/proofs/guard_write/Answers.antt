@@ -21,16 +21,16 @@ guard_total-requires c =
       c.requires.0,
       c.requires.1,
       c.requires.2,
-      formed-value a.key.now a.value.now a.status (find a.key.now (recs_in a.node.now)) c.if-key-gt-KEY.false c.if-value-gt-VALUE.false c.is_formed.ensures c.if-is_formed.true,
+      formed-value a.key.now a.value.now a.status (find a.key.now (recs_in a.node.now)) c.if-key-gt-KEY.false c.if-value-gt-VALUE.false c.is_formed.ensures c.if-not-is_formed.false,
     )
-
-pub returns-then-is_formed : goal.returns-then-is_formed
-returns-then-is_formed c =
-    let a = c.args in
-    c.guard_total.ensures
-    ∙ formed a.key.now a.value.now a.status (find a.key.now (recs_in a.node.now)) c.if-key-gt-KEY.false c.if-value-gt-VALUE.false c.is_formed.ensures c.if-is_formed.true
 
 pub returns : goal.returns
 returns c =
     let a = c.args in
-    not-formed a.key.now a.value.now a.status (find a.key.now (recs_in a.node.now)) c.if-key-gt-KEY.false c.if-value-gt-VALUE.false c.is_formed.ensures c.if-is_formed.false
+    c.guard_total.ensures
+    ∙ formed a.key.now a.value.now a.status (find a.key.now (recs_in a.node.now)) c.if-key-gt-KEY.false c.if-value-gt-VALUE.false c.is_formed.ensures c.if-not-is_formed.false
+
+pub returns-then-not-is_formed : goal.returns-then-not-is_formed
+returns-then-not-is_formed c =
+    let a = c.args in
+    not-formed a.key.now a.value.now a.status (find a.key.now (recs_in a.node.now)) c.if-key-gt-KEY.false c.if-value-gt-VALUE.false c.is_formed.ensures c.if-not-is_formed.true

@@ -14,8 +14,8 @@ use Rattle.table.proofs.Laid.{laid-key, laid-value, rec-long}
 use Rattle.local_node.proofs.Deciding.{alike-by, not_alike}
 use Rattle.local_node.proofs.is_same.Goals as goal
 
-pub read_record-held-requires : goal.read_record-held-requires
-read_record-held-requires c =
+pub read_record-requires : goal.read_record-requires
+read_record-requires c =
     let long : length c.record_of-x.result.now ≡ rec_width = ap length c.record_of-x.ensures ∙ rec-long c.args.node.now c.requires.0 c.args.j c.requires.1 in
     let value-short : value_length c.record_of-x.result.now ≤ max_value = subst (λ (x : List ℕ). value_length x ≤ max_value) (sym c.record_of-x.ensures) (laid-value c.args.node.now c.requires.0 c.args.j c.requires.1) in (
       long,
@@ -32,7 +32,7 @@ value_of-requires c =
 pub returns-then-same_status : goal.returns-then-same_status
 returns-then-same_status c =
     let status : c.same_status.result ≡ same_status (rec_at c.args.j c.args.node.now).kv.status c.args.status = c.same_status.ensures
-    ∙ ap (λ (h : Record). same_status h.status c.args.status) c.read_record-held.ensures
+    ∙ ap (λ (h : Record). same_status h.status c.args.status) c.read_record.ensures
     ∙ ap (λ (x : List ℕ). same_status (decode_rec x).kv.status c.args.status) c.record_of-x.ensures in
     let a = c.args in
     alike-by (rec_at a.j a.node.now) a.value.now a.status c.same.result (sym (status) ∙ c.if-same_status.true)
@@ -40,10 +40,10 @@ returns-then-same_status c =
     ∙ ap (λ (v : List ℕ). same_bytes v a.value.now)
     (c.value_of.ensures ∙ ap (λ (x : List ℕ). (decode_rec x).kv.value) c.record_of-x.ensures))
 
-pub returns : goal.returns
-returns c =
+pub returns-else-same_status : goal.returns-else-same_status
+returns-else-same_status c =
     let status : c.same_status.result ≡ same_status (rec_at c.args.j c.args.node.now).kv.status c.args.status = c.same_status.ensures
-    ∙ ap (λ (h : Record). same_status h.status c.args.status) c.read_record-held.ensures
+    ∙ ap (λ (h : Record). same_status h.status c.args.status) c.read_record.ensures
     ∙ ap (λ (x : List ℕ). same_status (decode_rec x).kv.status c.args.status) c.record_of-x.ensures in
     let a = c.args in
-    not_alike (rec_at a.j a.node.now) a.value.now a.status (sym (status) ∙ c.if-same_status.false)
+    c.if-same_status.false ∙ not_alike (rec_at a.j a.node.now) a.value.now a.status (sym (status) ∙ c.if-same_status.false)

@@ -5,14 +5,15 @@ use mathlib.Core.List.{List}
 use Rattle.rules.specs.Given.{Gives}
 use Rattle.rules.specs.Node.{Node, Decision, Setting, SettingTtl, wish, decide}
 use Rattle.rules.specs.declared.Status.TheVariants.{Set, Ttl}
-use Rattle.rules.specs.declared.Answer.{Answer}
+use Rattle.std.specs.Prelude.{Result}
+use Rattle.rules.specs.declared.Refusal.{Refusal}
 use Rattle.local_node.specs.declared.Kind.{Kind}
 use Rattle.local_grant.specs.Granting.{decided, node_in, change_of}
 use Rattle.local_node.specs.Writes.{node_called, within, setting, call_of}
 use Rattle.local_node.proofs.write_node.Goals as goal
 
 -- from the kind's own call to that of the kind at hand
-one : (k v : List ℕ) (t : ℕ) (b : List ℕ) (r : Answer) (s : List ℕ) (x y : Kind) → x ≡ y → Gives (node_called (call_of y v t) k b) r s → Gives (node_called (call_of x v t) k b) r s
+one : (k v : List ℕ) (t : ℕ) (b : List ℕ) (r : (Result (Unit {0}) Refusal)) (s : List ℕ) (x y : Kind) → x ≡ y → Gives (node_called (call_of y v t) k b) r s → Gives (node_called (call_of x v t) k b) r s
 one k v t b r s x y e = subst (λ (z : Kind). Gives (node_called (call_of z v t) k b) r s) (sym e)
 
 set_is : (k v : List ℕ) (n : Node) → setting k (change_of v Set 0) n ≡ decide (Setting v) k n

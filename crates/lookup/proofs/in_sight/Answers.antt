@@ -19,7 +19,7 @@ returns-then-key-gt-KEY c =
 
 pub in_record-requires : goal.in_record-requires
 in_record-requires c =
-    let named : let a = c.args in sees a.profile a.party a.key.now ≡ true = sym c.may_name.ensures ∙ c.if-may_name.true in
+    let named : let a = c.args in sees a.profile a.party a.key.now ≡ true = sym c.may_name.ensures ∙ c.if-not-may_name.false in
     let found : let a = c.args in find_key a.key.now (recs_in a.node.now) ≡ At c.in-At.j = sym c.search_key.ensures ∙ c.in-At.is in
     let a = c.args in
     let j = c.in-At.j in (
@@ -32,24 +32,24 @@ in_record-requires c =
 
 pub returns-in-At : goal.returns-in-At
 returns-in-At c =
-    let named : let a = c.args in sees a.profile a.party a.key.now ≡ true = sym c.may_name.ensures ∙ c.if-may_name.true in
+    let named : let a = c.args in sees a.profile a.party a.key.now ≡ true = sym c.may_name.ensures ∙ c.if-not-may_name.false in
     let found : let a = c.args in find_key a.key.now (recs_in a.node.now) ≡ At c.in-At.j = sym c.search_key.ensures ∙ c.in-At.is in
     let a = c.args in
     let j = c.in-At.j in
-    named-finds a.profile a.party a.key.now a.start _ c.if-key-gt-KEY.false c.may_name.ensures c.if-may_name.true _
+    named-finds a.profile a.party a.key.now a.start _ c.if-key-gt-KEY.false c.may_name.ensures c.if-not-may_name.false _
     (c.in_record.ensures
     ∙ ap (λ (x : ℕ). found_rec a.start (j - x) (rec_at j a.node.now)) c.low_of.ensures
     ∙ own_value a.profile a.party a.key.now a.node.now a.start c.requires.1 c.requires.2 (named) j (found))
 
 pub returns-in-Free : goal.returns-in-Free
 returns-in-Free c =
-    let named : let a = c.args in sees a.profile a.party a.key.now ≡ true = sym c.may_name.ensures ∙ c.if-may_name.true in
+    let named : let a = c.args in sees a.profile a.party a.key.now ≡ true = sym c.may_name.ensures ∙ c.if-not-may_name.false in
     let a = c.args in
-    named-finds a.profile a.party a.key.now a.start _ c.if-key-gt-KEY.false c.may_name.ensures c.if-may_name.true _
+    named-finds a.profile a.party a.key.now a.start _ c.if-key-gt-KEY.false c.may_name.ensures c.if-not-may_name.false _
     (no-own-value a.profile a.party a.key.now a.node.now a.start c.requires.1 c.requires.2 (named) _
     (sym c.search_key.ensures ∙ c.in-Free.is))
 
-pub returns-else-may_name : goal.returns-else-may_name
-returns-else-may_name c =
+pub returns-then-not-may_name : goal.returns-then-not-may_name
+returns-then-not-may_name c =
     let a = c.args in
-    other-first a.profile a.party a.key.now a.start _ c.if-key-gt-KEY.false c.may_name.ensures c.if-may_name.false
+    other-first a.profile a.party a.key.now a.start _ c.if-key-gt-KEY.false c.may_name.ensures c.if-not-may_name.true

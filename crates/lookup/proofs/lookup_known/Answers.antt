@@ -30,27 +30,27 @@ pub held-requires : goal.held-requires
 held-requires c =
     let says : let a = c.args in c.may_name.result ≡ sees (decode_whole a.table.now).kind.profile a.party a.key.now = let a = c.args in
     c.may_name.ensures ∙ ap (λ (p : Profile). sees p a.party a.key.now) c.profile_of.ensures in
-    let named : let a = c.args in sees (decode_whole a.table.now).kind.profile a.party a.key.now ≡ true = sym (says) ∙ c.if-may_name.true in
+    let named : let a = c.args in sees (decode_whole a.table.now).kind.profile a.party a.key.now ≡ true = sym (says) ∙ c.if-not-may_name.false in
     let a = c.args in
     found_within a.table.now (c.find_good.ensures ∙ whole-found a.table.now c.requires a.party a.number a.key.now (named)) _
     (whole-stands a.table.now c.requires a.party a.number a.key.now (named))
 
-pub returns-then-may_name : goal.returns-then-may_name
-returns-then-may_name c =
+pub returns : goal.returns
+returns c =
     let says : let a = c.args in c.may_name.result ≡ sees (decode_whole a.table.now).kind.profile a.party a.key.now = let a = c.args in
     c.may_name.ensures ∙ ap (λ (p : Profile). sees p a.party a.key.now) c.profile_of.ensures in
-    let named : let a = c.args in sees (decode_whole a.table.now).kind.profile a.party a.key.now ≡ true = sym (says) ∙ c.if-may_name.true in
+    let named : let a = c.args in sees (decode_whole a.table.now).kind.profile a.party a.key.now ≡ true = sym (says) ∙ c.if-not-may_name.false in
     let a = c.args in
     hands-found a.table.now (c.find_good.ensures ∙ whole-found a.table.now c.requires a.party a.number a.key.now (named)) _
     (whole-stands a.table.now c.requires a.party a.number a.key.now (named)) _ _ _ c.held.ensures
 
-pub returns-else-may_name : goal.returns-else-may_name
-returns-else-may_name c =
+pub returns-then-not-may_name : goal.returns-then-not-may_name
+returns-then-not-may_name c =
     let says : let a = c.args in c.may_name.result ≡ sees (decode_whole a.table.now).kind.profile a.party a.key.now = let a = c.args in
     c.may_name.ensures ∙ ap (λ (p : Profile). sees p a.party a.key.now) c.profile_of.ensures in
     let a = c.args in
     let p : Profile = (decode_whole a.table.now).kind.profile in
-    let h = sym (says) ∙ c.if-may_name.false in
+    let h = sym (says) ∙ c.if-not-may_name.true in
     let t = decode (area_of a.table.now) in (
       other-value p a.party a.number a.key.now t h,
       refl,

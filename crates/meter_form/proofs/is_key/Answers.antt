@@ -1,29 +1,17 @@
--- `meter_form::is_key` meets its contract: the bytes that are left decide. Assumes nothing.
-use mathlib.Core.Path.{◌∙◌, refl, sym}
-use native.Mathlib.Omega.{arith}
-use Rattle.rules.specs.Profile.{is_key_byte}
-use Rattle.meter_form.proofs.Forms.{all_none, all-on, all-stop, no_key, some_key}
+-- `meter_form::is_key` meets its contract. Assumes nothing.
+use Rattle.std.proofs.Common.{◌≡◌, arith, rules, tests}
+use Rattle.std.proofs.lemmas.Iterator.{YieldsList-from_slice}
+use Rattle.std.proofs.lemmas.Iterator.Search.{all_from_yields_List}
+use Rattle.std.proofs.lemmas.Bool.Decides.{nat_tests}
+use mathlib.Core.Path.{◌∙◌}
+use Rattle.fields.specs.Choice.{all}
+use Rattle.rules.specs.Profile.{is_key_byte, meter_key}
+use Rattle.meter_form.proofs.Forms.{list_all-all}
 use Rattle.meter_form.proofs.is_key.Goals as goal
 
-pub returns-then-key-eq0 : goal.returns-then-key-eq0
-returns-then-key-eq0 c =
-    no_key c.args.key.now c.if-key-eq0.true
-
-pub loop-i-init : goal.loop-i-init
-loop-i-init c =
-    (omega arith, refl)
-
-pub loop-i-preserved : goal.loop-i-preserved
-loop-i-preserved c =
+pub returns-then-not-is_empty : goal.returns-then-not-is_empty
+unfolding meter_key
+returns-then-not-is_empty c =
     let l = c.args.key.now in
-    (omega arith, all-on is_key_byte l c.loop-i.i (omega arith) c.is_key_byte.ensures c.if-is_key_byte.true ∙ c.loop-i.invariant.1)
-
-pub returns-else-is_key_byte : goal.returns-else-is_key_byte
-returns-else-is_key_byte c =
-    let l = c.args.key.now in
-    some_key l c.if-key-eq0.false _ (sym (all-stop is_key_byte l c.loop-i.i (omega arith) c.is_key_byte.ensures c.if-is_key_byte.false) ∙ c.loop-i.invariant.1)
-
-pub returns : goal.returns
-returns c =
-    let l = c.args.key.now in
-    some_key l c.if-key-eq0.false _ (sym (all_none is_key_byte l c.loop-i.i (omega arith)) ∙ c.loop-i.invariant.1)
+    let e : c.all.result ≡ all is_key_byte l = all_from_yields_List is_key_byte _ _ c.all.result c.all.ensures.ran (YieldsList-from_slice l cc) (λ x b q k. search (rules, tests)) ∙ list_all-all is_key_byte l in
+    grind (arith, nat_tests)

@@ -2,6 +2,7 @@
 use mathlib.Core.Path.{refl, sym}
 use native.Mathlib.Omega.{arith}
 use lib.Seq.{length-take-le}
+use Rattle.std.proofs.lemmas.Result.{err_from_is_err_and}
 use Rattle.fields.proofs.Lent.{lent}
 use Rattle.rules.specs.Memory.{forget}
 use Rattle.rules.specs.Layout.{table_width}
@@ -30,12 +31,14 @@ pub forget-requires : goal.forget-requires
 forget-requires c =
     came-laid c.args.table.now c.requires _ c.add_good.new.table c.add_good.ensures.1
 
-pub returns-in-Done : goal.returns-in-Done
-returns-in-Done c =
+pub returns : goal.returns
+returns c =
     let l = c.args.table.now in
-    add_done l c.requires c.args.number c.add_good.result c.add_good.new.table c.add_good.ensures c.in-Done.is _
+    add_done l c.requires c.args.number c.add_good.result c.add_good.new.table c.add_good.ensures c.in_ok-add_good.was _
     (tail-back l c.requires _ c.add_good.new.table c.add_good.ensures.1 (forget c.args.number) c.forget.new.tail c.forget.ensures _ (lent table_width tail_width _ c.forget.new.tail _ refl (lent-long c.forget.new.tail _ _ c.forget.ensures)))
 
-pub returns-in-Refused : goal.returns-in-Refused
-returns-in-Refused c =
-    add-not c.args.table.now c.requires c.args.number c.add_good.result c.add_good.new.table c.add_good.ensures _ c.in-Refused.is
+pub returns-in_err-add_good : goal.returns-in_err-add_good
+returns-in_err-add_good c =
+    let p = err_from_is_err_and c.from_residual.result c.from_residual.ensures.1 in
+    rw (p.1, p.2)
+    (add-not c.args.table.now c.requires c.args.number c.add_good.result c.add_good.new.table c.add_good.ensures _ c.in_err-add_good.was)

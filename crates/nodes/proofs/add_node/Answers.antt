@@ -2,7 +2,7 @@
 use mathlib.Core.Path.{sym, ◌∙◌}
 use Rattle.rules.specs.Answers.{answer_told}
 use Rattle.rules.specs.Lent.{add_whole}
-use Rattle.rules.specs.declared.Answer.TheVariants.{Refused}
+use Rattle.std.specs.Prelude.{Err}
 use Rattle.rules.specs.declared.Refusal.TheVariants.{BadTable}
 use Rattle.rules.proofs.Unique.{tells}
 use Rattle.table_check.proofs.Entry.{bad-whole, good-whole}
@@ -10,15 +10,15 @@ use Rattle.nodes.proofs.add_node.Goals as goal
 
 pub add_known-requires : goal.add_known-requires
 add_known-requires c =
-    sym c.check_table.ensures ∙ c.if-check_table.true
-
-pub returns-then-check_table : goal.returns-then-check_table
-returns-then-check_table c =
-    let a = c.args in
-    tells answer_told
-    (good-whole (Refused BadTable) (add_whole a.number) a.table.now (sym c.check_table.ensures ∙ c.if-check_table.true) c.add_known.result c.add_known.new.table c.add_known.ensures.0 c.add_known.ensures.1)
+    sym c.check_table.ensures ∙ c.if-not-check_table.false
 
 pub returns : goal.returns
 returns c =
     let a = c.args in
-    tells answer_told (bad-whole (Refused BadTable) (add_whole a.number) a.table.now (sym c.check_table.ensures ∙ c.if-check_table.false))
+    tells answer_told
+    (good-whole (Err BadTable) (add_whole a.number) a.table.now (sym c.check_table.ensures ∙ c.if-not-check_table.false) c.add_known.result c.add_known.new.table c.add_known.ensures.0 c.add_known.ensures.1)
+
+pub returns-then-not-check_table : goal.returns-then-not-check_table
+returns-then-not-check_table c =
+    let a = c.args in
+    tells answer_told (bad-whole (Err BadTable) (add_whole a.number) a.table.now (sym c.check_table.ensures ∙ c.if-not-check_table.true))

@@ -6,14 +6,14 @@ use Rattle.nodes.proofs.last_heartbeat.Goals as goal
 
 pub last_heartbeat_known-requires : goal.last_heartbeat_known-requires
 last_heartbeat_known-requires c =
-    sym c.check_table.ensures ∙ c.if-check_table.true
-
-pub returns-then-check_table : goal.returns-then-check_table
-returns-then-check_table c =
-    let a = c.args in
-    ap remembered_told (c.last_heartbeat_known.ensures ∙ told a.table.now a.number (sym c.check_table.ensures ∙ c.if-check_table.true))
+    sym c.check_table.ensures ∙ c.if-not-check_table.false
 
 pub returns : goal.returns
 returns c =
     let a = c.args in
-    ap remembered_told (not-told a.table.now a.number (sym c.check_table.ensures ∙ c.if-check_table.false))
+    ap remembered_told (c.last_heartbeat_known.ensures ∙ told a.table.now a.number (sym c.check_table.ensures ∙ c.if-not-check_table.false))
+
+pub returns-then-not-check_table : goal.returns-then-not-check_table
+returns-then-not-check_table c =
+    let a = c.args in
+    ap remembered_told (not-told a.table.now a.number (sym c.check_table.ensures ∙ c.if-not-check_table.true))

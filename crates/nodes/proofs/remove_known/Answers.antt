@@ -2,6 +2,7 @@
 use mathlib.Core.Path.{refl, sym}
 use native.Mathlib.Omega.{arith}
 use lib.Seq.{length-take-le}
+use Rattle.std.proofs.lemmas.Result.{err_from_is_err_and}
 use Rattle.fields.proofs.Lent.{lent}
 use Rattle.rules.specs.Memory.{remember}
 use Rattle.rules.specs.Layout.{table_width}
@@ -42,12 +43,14 @@ pub remember-requires : goal.remember-requires
 remember-requires c =
     came-laid c.args.table.now c.requires _ c.remove_good.new.table c.remove_good.ensures.1
 
-pub returns-in-Done : goal.returns-in-Done
-returns-in-Done c =
+pub returns : goal.returns
+returns c =
     let l = c.args.table.now in
-    remove-done l c.requires c.args.number c.remove_good.result c.remove_good.new.table c.remove_good.ensures c.in-Done.is c.heartbeat_in-beat.result c.heartbeat_in-beat.ensures _
+    remove-done l c.requires c.args.number c.remove_good.result c.remove_good.new.table c.remove_good.ensures c.in_ok-remove_good.was c.heartbeat_in-beat.result c.heartbeat_in-beat.ensures _
     (tail-back l c.requires _ c.remove_good.new.table c.remove_good.ensures.1 (remember c.args.number c.heartbeat_in-beat.result) c.remember.new.tail c.remember.ensures _ (lent table_width tail_width _ c.remember.new.tail _ refl (lent-long c.remember.new.tail _ _ c.remember.ensures)))
 
-pub returns-in-Refused : goal.returns-in-Refused
-returns-in-Refused c =
-    remove-not c.args.table.now c.requires c.args.number c.remove_good.result c.remove_good.new.table c.remove_good.ensures _ c.in-Refused.is
+pub returns-in_err-remove_good : goal.returns-in_err-remove_good
+returns-in_err-remove_good c =
+    let p = err_from_is_err_and c.from_residual.result c.from_residual.ensures.1 in
+    rw (p.1, p.2)
+    (remove-not c.args.table.now c.requires c.args.number c.remove_good.result c.remove_good.new.table c.remove_good.ensures _ c.in_err-remove_good.was)

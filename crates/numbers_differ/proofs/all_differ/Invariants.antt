@@ -9,6 +9,3 @@ use Rattle.numbers_differ.proofs.all_differ.Given as goal
 
 abbrev pub invariant-loop-i : goal.invariant-loop-i
 invariant-loop-i l = (l.i ≤ l.n) × (length l.seen ≡ 1024) × (differ (take (l.n - l.i) (drop l.i l.ns)) ≡ true) × Marked l.seen (take (l.n - l.i) (drop l.i l.ns))
-
-abbrev pub decreases-loop-i : goal.decreases-loop-i
-decreases-loop-i l = l.i

@@ -9,28 +9,28 @@ use Rattle.over_find.proofs.lookup_over.Goals as goal
 
 pub lookup_over_known-requires : goal.lookup_over_known-requires
 lookup_over_known-requires c =
-    (sym c.check_overrides.ensures ∙ c.if-check_overrides.true, sym c.check_table.ensures ∙ c.if-check_table.true)
+    (sym c.check_overrides.ensures ∙ c.if-not-check_overrides.false, sym c.check_table.ensures ∙ c.if-not-check_table.false)
 
-pub returns-then-check_table : goal.returns-then-check_table
-returns-then-check_table c =
+pub returns : goal.returns
+returns c =
     let a = c.args in
     same-hands
     (good-both (λ w. nothing_held) (value_over (decode_whole a.table.now).kind.profile a.party a.number a.key.now) a.overrides.now a.table.now c.check_overrides.ensures
-    c.if-check_overrides.true c.check_table.ensures c.if-check_table.true _ refl)
+    c.if-not-check_overrides.false c.check_table.ensures c.if-not-check_table.false _ refl)
     a.overrides.ref_ptr a.table.ref_ptr _ _ c.lookup_over_known.ensures
 
-pub returns-else-check_table : goal.returns-else-check_table
-returns-else-check_table c =
+pub returns-then-not-check_table : goal.returns-then-not-check_table
+returns-then-not-check_table c =
     let a = c.args in
     same-hands
     (bad-under (λ w. nothing_held) (value_over (decode_whole a.table.now).kind.profile a.party a.number a.key.now) a.overrides.now a.table.now
-    c.check_overrides.ensures c.if-check_overrides.true c.check_table.ensures c.if-check_table.false)
+    c.check_overrides.ensures c.if-not-check_overrides.false c.check_table.ensures c.if-not-check_table.true)
     a.overrides.ref_ptr a.table.ref_ptr _ _ (refl, refl, sym (add-zero a.table.ref_ptr.1))
 
-pub returns-else-check_overrides : goal.returns-else-check_overrides
-returns-else-check_overrides c =
+pub returns-then-not-check_overrides : goal.returns-then-not-check_overrides
+returns-then-not-check_overrides c =
     let a = c.args in
     same-hands
     (bad-over (λ w. nothing_held) (value_over (decode_whole a.table.now).kind.profile a.party a.number a.key.now) a.overrides.now a.table.now c.check_overrides.ensures
-    c.if-check_overrides.false)
+    c.if-not-check_overrides.true)
     a.overrides.ref_ptr a.table.ref_ptr _ _ (refl, refl, sym (add-zero a.table.ref_ptr.1))

@@ -27,24 +27,24 @@ pub held_over-requires : goal.held_over-requires
 held_over-requires c =
     let says : let a = c.args in c.may_name.result ≡ sees (decode_whole a.table.now).kind.profile a.party a.key.now = let a = c.args in
     c.may_name.ensures ∙ ap (λ (p : Profile). sees p a.party a.key.now) c.profile_of.ensures in
-    let named : let a = c.args in sees (decode_whole a.table.now).kind.profile a.party a.key.now ≡ true = sym (says) ∙ c.if-may_name.true in
+    let named : let a = c.args in sees (decode_whole a.table.now).kind.profile a.party a.key.now ≡ true = sym (says) ∙ c.if-not-may_name.false in
     let a = c.args in
     named-within a.overrides.now a.table.now c.requires.0 c.requires.1 a.party a.number a.key.now (named) _ c.find_over_good.ensures
 
-pub returns-then-may_name : goal.returns-then-may_name
-returns-then-may_name c =
+pub returns : goal.returns
+returns c =
     let says : let a = c.args in c.may_name.result ≡ sees (decode_whole a.table.now).kind.profile a.party a.key.now = let a = c.args in
     c.may_name.ensures ∙ ap (λ (p : Profile). sees p a.party a.key.now) c.profile_of.ensures in
-    let named : let a = c.args in sees (decode_whole a.table.now).kind.profile a.party a.key.now ≡ true = sym (says) ∙ c.if-may_name.true in
+    let named : let a = c.args in sees (decode_whole a.table.now).kind.profile a.party a.key.now ≡ true = sym (says) ∙ c.if-not-may_name.false in
     let a = c.args in
     named-hands a.overrides.now a.table.now c.requires.0 c.requires.1 a.party a.number a.key.now (named) _ c.find_over_good.ensures _ _ _ _ c.held_over.ensures
 
-pub returns-else-may_name : goal.returns-else-may_name
-returns-else-may_name c =
+pub returns-then-not-may_name : goal.returns-then-not-may_name
+returns-then-not-may_name c =
     let says : let a = c.args in c.may_name.result ≡ sees (decode_whole a.table.now).kind.profile a.party a.key.now = let a = c.args in
     c.may_name.ensures ∙ ap (λ (p : Profile). sees p a.party a.key.now) c.profile_of.ensures in
     let a = c.args in
     same-hands
-    (other-held (decode_whole a.table.now).kind.profile a.party a.number a.key.now (decode_node a.overrides.now).node (decode (area_of a.table.now)) (sym (says) ∙ c.if-may_name.false))
+    (other-held (decode_whole a.table.now).kind.profile a.party a.number a.key.now (decode_node a.overrides.now).node (decode (area_of a.table.now)) (sym (says) ∙ c.if-not-may_name.true))
     a.overrides.ref_ptr a.table.ref_ptr _ _
     (refl, refl, sym (add-zero a.table.ref_ptr.1))

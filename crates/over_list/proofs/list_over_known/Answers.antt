@@ -11,7 +11,7 @@ use Rattle.table.proofs.Wholes.{area-formed, area-valid, whole_long}
 use Rattle.table_check.proofs.Entry.{area-long}
 use Rattle.overrides.proofs.Both.{good-both-fills}
 use Rattle.over_list.specs.Merged.{list_over}
-use Rattle.over_list.specs.declared.ListedOver.TheVariants as listed
+use Rattle.std.specs.Prelude.{Err}
 use Rattle.over_list.proofs.Listed.{profile-fills}
 use Rattle.over_list.proofs.list_over_known.Goals as goal
 
@@ -31,6 +31,6 @@ list_over_seen-requires c =
 pub returns : goal.returns
 returns c =
     let a = c.args in
-    good-both-fills (λ w. given (listed.Refused w BadTable) a.out.now) (list_over (decode_whole a.table.now).kind.profile a.party a.number a.prefix.now a.out.now)
+    good-both-fills (λ w. given (Err (record { which = w; why = BadTable })) a.out.now) (list_over (decode_whole a.table.now).kind.profile a.party a.number a.prefix.now a.out.now)
     a.overrides.now a.table.now refl c.requires.0 refl c.requires.1 _ _
     (profile-fills c.profile_of-profile.ensures a.party a.number a.prefix.now a.out.now (decode_node a.overrides.now).node (decode (area_of a.table.now)) _ _ c.list_over_seen.ensures)

@@ -7,22 +7,22 @@ use lib.Dec.{eqb}
 use borrow.Author.Tests.{eq-eqb, ne_eqb}
 use Rattle.fields.specs.Choice.{pick}
 use Rattle.fields.specs.Order.{order_of}
-use Rattle.fields.specs.declared.Order.{Order}
-use Rattle.fields.specs.declared.Order.TheVariants.{Less, More}
+use Rattle.std.specs.declared.cmp.Ordering.{Ordering}
+use Rattle.std.specs.declared.cmp.Ordering.TheVariants.{Less, Greater}
 use Rattle.fields.proofs.Choice.{pick_true, pick-false}
 use Rattle.rules.specs.Layout.{decode_rec}
 use Rattle.table_read.proofs.Reading.{rec-fits}
 use Rattle.over_list.proofs.next_key.Goals as goal
 
-module _ (a a_end b b_end : ℕ) (x : Order) where
-  at-end : a ≡ a_end → More ≡ pick (eqb a a_end) More (pick (eqb b b_end) Less x)
-  at-end e = sym (pick_true (eqb a a_end) More (pick (eqb b b_end) Less x) (eq-eqb a a_end e))
+module _ (a a_end b b_end : ℕ) (x : Ordering) where
+  at-end : a ≡ a_end → Greater ≡ pick (eqb a a_end) Greater (pick (eqb b b_end) Less x)
+  at-end e = sym (pick_true (eqb a a_end) Greater (pick (eqb b b_end) Less x) (eq-eqb a a_end e))
 
-  other-at-end : (a ≡ a_end → ⊥) → b ≡ b_end → Less ≡ pick (eqb a a_end) More (pick (eqb b b_end) Less x)
-  other-at-end d e = sym (pick-false (eqb a a_end) More (pick (eqb b b_end) Less x) (ne_eqb a a_end d) ∙ pick_true (eqb b b_end) Less x (eq-eqb b b_end e))
+  other-at-end : (a ≡ a_end → ⊥) → b ≡ b_end → Less ≡ pick (eqb a a_end) Greater (pick (eqb b b_end) Less x)
+  other-at-end d e = sym (pick-false (eqb a a_end) Greater (pick (eqb b b_end) Less x) (ne_eqb a a_end d) ∙ pick_true (eqb b b_end) Less x (eq-eqb b b_end e))
 
-  neither : (a ≡ a_end → ⊥) → (b ≡ b_end → ⊥) → x ≡ pick (eqb a a_end) More (pick (eqb b b_end) Less x)
-  neither d e = sym (pick-false (eqb a a_end) More (pick (eqb b b_end) Less x) (ne_eqb a a_end d) ∙ pick-false (eqb b b_end) Less x (ne_eqb b b_end e))
+  neither : (a ≡ a_end → ⊥) → (b ≡ b_end → ⊥) → x ≡ pick (eqb a a_end) Greater (pick (eqb b b_end) Less x)
+  neither d e = sym (pick-false (eqb a a_end) Greater (pick (eqb b b_end) Less x) (ne_eqb a a_end d) ∙ pick-false (eqb b b_end) Less x (ne_eqb b b_end e))
 
 pub returns-then-a-a_end : goal.returns-then-a-a_end
 returns-then-a-a_end c =

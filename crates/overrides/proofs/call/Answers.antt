@@ -1,7 +1,7 @@
 -- `overrides::call` meets its contract: 14, or the call on the node's bytes. Assumes nothing.
 use mathlib.Core.Path.{sym, ◌∙◌}
 use Rattle.rules.specs.Answers.{answer_told}
-use Rattle.rules.specs.declared.Answer.TheVariants.{Refused}
+use Rattle.std.specs.Prelude.{Err}
 use Rattle.rules.specs.declared.Refusal.TheVariants.{BadTable}
 use Rattle.rules.proofs.Unique.{tells}
 use Rattle.local_node.specs.Writes.{call_of}
@@ -12,18 +12,18 @@ use Rattle.overrides.proofs.call.Goals as goal
 
 pub write_node-requires : goal.write_node-requires
 write_node-requires c =
-    let v = sym c.check_overrides.ensures ∙ c.if-check_overrides.true in (over-laid _ v, over-rises _ v)
-
-pub returns-then-check_overrides : goal.returns-then-check_overrides
-returns-then-check_overrides c =
-    let a = c.args in
-    let w = c.write_node in
-    tells answer_told
-    (good-overrides (Refused BadTable) (called (call_of a.kind a.value.now a.clock) a.key.now) a.overrides.now c.check_overrides.ensures c.if-check_overrides.true
-    w.result w.new.node w.ensures)
+    let v = sym c.check_overrides.ensures ∙ c.if-not-check_overrides.false in (over-laid _ v, over-rises _ v)
 
 pub returns : goal.returns
 returns c =
     let a = c.args in
+    let w = c.write_node in
     tells answer_told
-    (bad-overrides (Refused BadTable) (called (call_of a.kind a.value.now a.clock) a.key.now) a.overrides.now c.check_overrides.ensures c.if-check_overrides.false)
+    (good-overrides (Err BadTable) (called (call_of a.kind a.value.now a.clock) a.key.now) a.overrides.now c.check_overrides.ensures c.if-not-check_overrides.false
+    w.result w.new.node w.ensures)
+
+pub returns-then-not-check_overrides : goal.returns-then-not-check_overrides
+returns-then-not-check_overrides c =
+    let a = c.args in
+    tells answer_told
+    (bad-overrides (Err BadTable) (called (call_of a.kind a.value.now a.clock) a.key.now) a.overrides.now c.check_overrides.ensures c.if-not-check_overrides.true)

@@ -2,7 +2,6 @@
 use Prim.Native.Nat.{ℕ, ◌+◌, ◌≤◌, ◌<◌}
 use mathlib.Core.Bool.{Bool, true, false}
 use mathlib.Core.List.{List, ◌∷◌}
-use mathlib.Core.Logic.{⊎_elim}
 use mathlib.Core.Path.{◌≡◌, ap, subst, sym, ◌∙◌}
 use native.Mathlib.Nat.{zero-add}
 use native.Mathlib.Numerals.{add-one}
@@ -18,6 +17,7 @@ use Rattle.table.specs.Tests.{count_of, key_length, recs_in}
 use Rattle.table.proofs.Laid.{laid-key, rec-long}
 use Rattle.table.proofs.Places.{length-recs, rec_at, rec_bytes, recs-drop}
 use Rattle.party_count.proofs.count_own.Goals as goal
+use Rattle.party_count.proofs.count_own.Goals.{then-owns, else-owns}
 
 -- one record more
 module _ (mine : List ℕ → Bool) (b : List ℕ) (i k t : ℕ) (q : k + length (of_keys mine (drop i (recs_in b))) ≡ t) where
@@ -45,7 +45,7 @@ module _ (mine : List ℕ → Bool) (b : List ℕ) (i k t : ℕ) (q : k + length
 
 pub loop-i-init : goal.loop-i-init
 loop-i-init c =
-    (omega arith, omega arith, zero-add _)
+    (omega arith, zero-add _)
 
 pub key_of-requires : goal.key_of-requires
 key_of-requires c =
@@ -62,14 +62,15 @@ loop-i-preserved c =
     let i : ℕ = c.loop-i.i in
     let h : i < count_of b = omega arith in
     let mine : List ℕ → Bool = own a.party in
-    let more = counted mine b i c.loop-i.count _ c.loop-i.invariant.2 h _ c.record_of.ensures _ c.key_of.ensures _ c.owns.ensures in
-    let same = passed mine b i c.loop-i.count _ c.loop-i.invariant.2 h _ c.record_of.ensures _ c.key_of.ensures _ c.owns.ensures in
+    let more = counted mine b i c.loop-i.count _ c.loop-i.invariant.1 h _ c.record_of.ensures _ c.key_of.ensures _ c.owns.ensures in
+    let same = passed mine b i c.loop-i.count _ c.loop-i.invariant.1 h _ c.record_of.ensures _ c.key_of.ensures _ c.owns.ensures in
     let with_rest : ℕ → ℕ = λ n. n + length (of_keys mine (drop (i + 1) (recs_in b))) in
-    ⊎_elim (λ w. (omega arith, omega arith, ap with_rest w.count-is ∙ more w.if-owns.true))
-    (λ w. (omega arith, omega arith, ap with_rest w.count-is ∙ same w.if-owns.false))
-    c.if-owns.branch-raw
+    elim c.if-owns.branch [
+      | then-owns w ↦ (omega arith, ap with_rest w.count-is ∙ more w.if-owns.true)
+      | else-owns w ↦ (omega arith, ap with_rest w.count-is ∙ same w.if-owns.false)
+    ]
 
 pub returns : goal.returns
 returns c =
     let a = c.args in
-    over (own a.party) a.node.now c.loop-i.i c.loop-i.count _ c.loop-i.invariant.2 (omega arith)
+    over (own a.party) a.node.now c.loop-i.i c.loop-i.count _ c.loop-i.invariant.1 (omega arith)

@@ -1,5 +1,7 @@
 -- `peers::bounds_of` meets its contract: one column after the other. Assumes nothing.
-use mathlib.Core.Path.{◌∙◌, ap, refl}
+use mathlib.Core.Path.{◌≡◌, ◌∙◌, ap}
+use Prim.Native.Nat.{ℕ}
+use Rattle.std.proofs.lemmas.List.Edits.{fill_by_more}
 use native.Mathlib.Omega.{arith}
 use lib.ListN.{length, length-set}
 use Rattle.fields.proofs.Lent.{seen}
@@ -7,7 +9,7 @@ use Rattle.fields.proofs.Parts.{length_part}
 use Rattle.grid.specs.Grid.{least_of, max_peers, maxes_at}
 use Rattle.grid.specs.GridLayout.{decode_grid, rows_in, rows_width}
 use Rattle.grid.proofs.GridBytes.{good-grid}
-use Rattle.peers.proofs.Watching.{bound-is, more-bounds}
+use Rattle.peers.proofs.Watching.{bound-is}
 use Rattle.peers.proofs.bounds_of.Goals as goal
 
 pub slice_bounds-read_rows-end : goal.slice_bounds-read_rows-end
@@ -17,10 +19,6 @@ slice_bounds-read_rows-end c =
 pub read_rows-maxes-requires : goal.read_rows-maxes-requires
 read_rows-maxes-requires c =
     ap length (seen 585 rows_width c.args.grid.now) ∙ length_part 585 rows_width c.args.grid.now (omega (arith, (good-grid c.args.grid.now c.requires).long))
-
-pub loop-j-init : goal.loop-j-init
-loop-j-init c =
-    (omega arith, refl, c.read_rows-maxes.ensures ∙ ap rows_in (seen 585 rows_width c.args.grid.now), λ k h. absurd (omega arith))
 
 pub slice_bounds-least_of-end : goal.slice_bounds-least_of-end
 slice_bounds-least_of-end c =
@@ -32,15 +30,8 @@ least_of-requires c =
 
 pub loop-j-preserved : goal.loop-j-preserved
 loop-j-preserved c =
-    let l = c.loop-j in (
-      omega arith,
-      length-set l.bounds l.j c.least_of.result ∙ l.invariant.1,
-      l.invariant.2,
-      more-bounds (λ j. least_of (maxes_at j (decode_grid c.args.grid.now))) l.bounds l.j c.least_of.result (omega (arith, l.invariant.1))
-          (c.least_of.ensures ∙ bound-is c.args.grid.now l.j _ _ (seen 65 max_peers c.args.grid.now) l.invariant.2) l.invariant.3,
-    )
-
-pub returns : goal.returns
-returns c =
     let l = c.loop-j in
-    (l.invariant.1, λ j h. l.invariant.3 j (omega arith))
+    let g = c.args.grid.now in
+    let bound : ℕ → ℕ = λ (j : ℕ). least_of (maxes_at j (decode_grid g)) in
+    let e : c.least_of.result ≡ bound l.j = c.least_of.ensures ∙ bound-is g l.j _ _ (seen 65 max_peers g) (c.read_rows-maxes.ensures ∙ ap rows_in (seen 585 rows_width g)) in
+    record { long = length-set l.bounds l.j c.least_of.result ∙ l.invariant.long; least = rw e (fill_by_more bound l.bounds l.j 0 (omega arith) l.invariant.least) }

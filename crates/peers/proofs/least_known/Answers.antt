@@ -40,18 +40,18 @@ slice_bounds-least_of-end c =
 
 pub least_of-requires : goal.least_of-requires
 least_of-requires c =
-    (ap length (seen 65 max_peers c.args.grid.now) ∙ length_part 65 max_peers c.args.grid.now (omega (arith, (good-grid c.args.grid.now c.requires).long)), omega (arith, c.if-j-n.true, few c.args.grid.now c.requires c.byte_at-n.result c.read_row-numbers.result c.byte_at-n.ensures.0 (c.read_row-numbers.ensures ∙ ap row_in (seen 1 row_width c.args.grid.now))))
-
-pub returns-then-j-n : goal.returns-then-j-n
-returns-then-j-n c =
-    let maxes = c.read_rows-maxes.ensures ∙ ap rows_in (seen 585 rows_width c.args.grid.now) in
-    least-found c.args.grid.now c.requires c.byte_at-n.result c.read_row-numbers.result c.byte_at-n.ensures.0 (c.read_row-numbers.ensures ∙ ap row_in (seen 1 row_width c.args.grid.now)) c.args.number c.place_of-j.result c.place_of-j.ensures (sym (present-is c.args.grid.now c.somebody.result (c.somebody.ensures ∙ ap (among 1) (seen 65 max_peers c.args.grid.now))) ∙ c.if-somebody.true) c.if-j-n.true c.least_of.result
-    (c.least_of.ensures ∙ ap₂ (λ (x : List ℕ) (y : List (List ℕ)). least_of (of_present x (column_at c.place_of-j.result y))) (seen 65 max_peers c.args.grid.now) maxes)
-
-pub returns-then-somebody : goal.returns-then-somebody
-returns-then-somebody c =
-    least-missing c.args.grid.now c.requires c.byte_at-n.result c.read_row-numbers.result c.byte_at-n.ensures.0 (c.read_row-numbers.ensures ∙ ap row_in (seen 1 row_width c.args.grid.now)) c.args.number c.place_of-j.result c.place_of-j.ensures (sym (present-is c.args.grid.now c.somebody.result (c.somebody.ensures ∙ ap (among 1) (seen 65 max_peers c.args.grid.now))) ∙ c.if-somebody.true) (omega (arith, c.if-j-n.false))
+    (ap length (seen 65 max_peers c.args.grid.now) ∙ length_part 65 max_peers c.args.grid.now (omega (arith, (good-grid c.args.grid.now c.requires).long)), omega (arith, c.if-n-j.false, few c.args.grid.now c.requires c.byte_at-n.result c.read_row-numbers.result c.byte_at-n.ensures.0 (c.read_row-numbers.ensures ∙ ap row_in (seen 1 row_width c.args.grid.now))))
 
 pub returns : goal.returns
 returns c =
-    least-nobody c.args.grid.now c.args.number (sym (present-is c.args.grid.now c.somebody.result (c.somebody.ensures ∙ ap (among 1) (seen 65 max_peers c.args.grid.now))) ∙ c.if-somebody.false)
+    let maxes = c.read_rows-maxes.ensures ∙ ap rows_in (seen 585 rows_width c.args.grid.now) in
+    least-found c.args.grid.now c.requires c.byte_at-n.result c.read_row-numbers.result c.byte_at-n.ensures.0 (c.read_row-numbers.ensures ∙ ap row_in (seen 1 row_width c.args.grid.now)) c.args.number c.place_of-j.result c.place_of-j.ensures (sym (present-is c.args.grid.now c.somebody.result (c.somebody.ensures ∙ ap (among 1) (seen 65 max_peers c.args.grid.now))) ∙ c.if-not-somebody.false) c.if-n-j.false c.least_of.result
+    (c.least_of.ensures ∙ ap₂ (λ (x : List ℕ) (y : List (List ℕ)). least_of (of_present x (column_at c.place_of-j.result y))) (seen 65 max_peers c.args.grid.now) maxes)
+
+pub returns-then-n-j : goal.returns-then-n-j
+returns-then-n-j c =
+    least-missing c.args.grid.now c.requires c.byte_at-n.result c.read_row-numbers.result c.byte_at-n.ensures.0 (c.read_row-numbers.ensures ∙ ap row_in (seen 1 row_width c.args.grid.now)) c.args.number c.place_of-j.result c.place_of-j.ensures (sym (present-is c.args.grid.now c.somebody.result (c.somebody.ensures ∙ ap (among 1) (seen 65 max_peers c.args.grid.now))) ∙ c.if-not-somebody.false) c.if-n-j.true
+
+pub returns-then-not-somebody : goal.returns-then-not-somebody
+returns-then-not-somebody c =
+    least-nobody c.args.grid.now c.args.number (sym (present-is c.args.grid.now c.somebody.result (c.somebody.ensures ∙ ap (among 1) (seen 65 max_peers c.args.grid.now))) ∙ c.if-not-somebody.true)

@@ -1,7 +1,8 @@
 -- `plan_lines::judge_lines` meets its contract: what the lines from j on come to is what all come to. Assumes nothing.
-use Prim.Native.Nat.{◌+◌, ◌-◌, ◌≤◌}
-use mathlib.Core.Path.{◌∙◌, ◌≡◌, refl, sym}
+use Prim.Native.Nat.{ℕ, ◌+◌, ◌-◌, ◌≤◌}
+use mathlib.Core.Path.{◌∙◌, ◌≡◌, ap, refl, sym}
 use native.Mathlib.Omega.{arith}
+use lib.ListN.{length}
 use lib.Seq.{length-take-le}
 use Rattle.rules.specs.Layout.{decode}
 use Rattle.digest_read.specs.Held.{entries_in}
@@ -35,20 +36,20 @@ overflow_sub-left c =
     let a = c.args in
     let ds = entries_in a.digest in
     let t = decode a.table.now in
-    (c.in-Bytes.size ≤ w.left)
+    (c.in-Ok.size ≤ w.left)
     × (from-line a.excluded.now ds t a.nodes.now a.counts.now w.j w.left
-    ≡ from-line a.excluded.now ds t a.nodes.now a.counts.now (w.j + 1) (w.left - c.in-Bytes.size)) = let w = c.loop-j in
+    ≡ from-line a.excluded.now ds t a.nodes.now a.counts.now (w.j + 1) (w.left - c.in-Ok.size)) = let w = c.loop-j in
     let a = c.args in
     line-good a.excluded.now (entries_in a.digest) (decode a.table.now) a.nodes.now a.counts.now w.j w.left c.loop-j-test.true c.if-counts-j.false
-    _ _ c.judge_line.ensures c.in-Bytes.is in
+    _ _ c.judge_line.ensures c.in-Ok.is in
     (good).0
 
-pub returns-in-Fault : goal.returns-in-Fault
-returns-in-Fault c =
+pub returns-in-Err : goal.returns-in-Err
+returns-in-Err c =
     let w = c.loop-j in
     let a = c.args in
     at-fault a.excluded.now (entries_in a.digest) (decode a.table.now) a.nodes.now a.counts.now w.j w.left c.loop-j-test.true c.if-counts-j.false
-    _ _ c.judge_line.ensures c.in-Fault.is
+    _ _ c.judge_line.ensures c.in-Err.is
     ∙ w.invariant.1
     ∙ all_lines a.excluded.now (entries_in a.digest) (decode a.table.now) a.nodes.now a.counts.now a.mtu
 
@@ -58,27 +59,33 @@ loop-j-preserved c =
     let a = c.args in
     let ds = entries_in a.digest in
     let t = decode a.table.now in
-    (c.in-Bytes.size ≤ w.left)
+    (c.in-Ok.size ≤ w.left)
     × (from-line a.excluded.now ds t a.nodes.now a.counts.now w.j w.left
-    ≡ from-line a.excluded.now ds t a.nodes.now a.counts.now (w.j + 1) (w.left - c.in-Bytes.size)) = let w = c.loop-j in
+    ≡ from-line a.excluded.now ds t a.nodes.now a.counts.now (w.j + 1) (w.left - c.in-Ok.size)) = let w = c.loop-j in
     let a = c.args in
     line-good a.excluded.now (entries_in a.digest) (decode a.table.now) a.nodes.now a.counts.now w.j w.left c.loop-j-test.true c.if-counts-j.false
-    _ _ c.judge_line.ensures c.in-Bytes.is in
+    _ _ c.judge_line.ensures c.in-Ok.is in
     let h = c.loop-j-test.true in
     (omega (arith, h), sym (good).1 ∙ c.loop-j.invariant.1)
 
-pub returns-then-j-counts : goal.returns-then-j-counts
-returns-then-j-counts c =
+pub returns-then-nodes-counts : goal.returns-then-nodes-counts
+returns-then-nodes-counts c =
     let w = c.loop-j in
     let a = c.args in
-    lone-count a.excluded.now (entries_in a.digest) (decode a.table.now) a.nodes.now a.counts.now w.j w.left c.loop-j-test.false c.if-j-counts.true
+    let ds = entries_in a.digest in
+    let t = decode a.table.now in
+    let n = length a.nodes.now in
+    let last : n ≡ w.j = omega (arith, c.loop-j-test.false, w.invariant.0) in
+    lone-count a.excluded.now ds t a.nodes.now a.counts.now n w.left (omega arith) c.if-nodes-counts.true
+    ∙ ap (λ (j : ℕ). from-line a.excluded.now ds t a.nodes.now a.counts.now j w.left) last
     ∙ w.invariant.1
-    ∙ all_lines a.excluded.now (entries_in a.digest) (decode a.table.now) a.nodes.now a.counts.now a.mtu
+    ∙ all_lines a.excluded.now ds t a.nodes.now a.counts.now a.mtu
 
 pub returns : goal.returns
 returns c =
     let w = c.loop-j in
     let a = c.args in
-    no_line a.excluded.now (entries_in a.digest) (decode a.table.now) a.nodes.now a.counts.now w.j w.left c.loop-j-test.false c.if-j-counts.false
+    no_line a.excluded.now (entries_in a.digest) (decode a.table.now) a.nodes.now a.counts.now w.j w.left c.loop-j-test.false
+    (omega (arith, c.if-nodes-counts.false, c.loop-j-test.false))
     ∙ w.invariant.1
     ∙ all_lines a.excluded.now (entries_in a.digest) (decode a.table.now) a.nodes.now a.counts.now a.mtu

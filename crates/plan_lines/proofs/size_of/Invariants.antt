@@ -16,6 +16,3 @@ invariant-loop-k l = (l.k ≤ l.n)
     × AllBelow (length (entry_at (decode l.table) l.p).node.recs) (listed l.k l.at)
     × (l.size + length (delta_bytes (records_at (decode l.table) l.p (take (l.k - l.end) (listed l.k l.at))))
     ≡ 25 + length (delta_bytes (records_at (decode l.table) l.p (take (l.n - l.end) (listed l.n l.at)))))
-
-abbrev pub decreases-loop-k : goal.decreases-loop-k
-decreases-loop-k l = l.k

@@ -10,7 +10,7 @@ use Rattle.rules.specs.Node.{KeyValue}
 use Rattle.table_read.specs.Find.{entry_at}
 use Rattle.plan_lines.specs.Lines.{line_at}
 use Rattle.plan_lines.specs.declared.Above.{Above}
-use Rattle.plan_lines.specs.declared.Line.TheVariants as line
+use Rattle.std.specs.Prelude.{Ok}
 use Rattle.plan_lines.proofs.Placed.{it-fits, no-fit, too_few, too_many}
 use Rattle.plan_lines.proofs.weigh.Goals.{then-count-eq0+else-n-ne0, else-count-eq0}
 use Rattle.plan_lines.proofs.weigh.Goals as goal
@@ -51,5 +51,5 @@ returns c =
     let left : ℕ = c.args.left in
     let count-is : length (all) ≡ c.weigh_all-all.result.count = sym (ap (λ (x : Above). x.count) c.weigh_all-all.ensures) in
     let zero-so : count ≡ 0 → c.weigh_all-all.result.count ≡ 0 = λ (z : count ≡ 0). elim c.if-count-eq0.branch [ then-count-eq0+else-n-ne0 w ↦ w.if-n-ne0.false | else-count-eq0 w ↦ absurd (w.if-count-eq0.false z) ] in
-    ap line.Bytes c.line_size-size.ensures
+    ap Ok c.line_size-size.ensures
     ∙ it-fits (count) (all) (size) (left) _ (count-is) c.if-n-count.false (zero-so) (subst (λ (n : ℕ). n ≤ left) c.line_size-size.ensures c.if-left-size.false)

@@ -1,5 +1,5 @@
 -- `plan_lines::weigh_all` meets its contract: those summed and those that are left are all. Assumes nothing.
-use Prim.Native.Nat.{◌+◌, ◌*◌, ◌-◌, ◌≤◌}
+use Prim.Native.Nat.{◌+◌, ◌*◌, ◌≤◌}
 use mathlib.Core.Path.{◌≡◌}
 use lib.ListN.{length}
 use Rattle.rules.specs.Layout.{decode}
@@ -14,6 +14,3 @@ invariant-loop-i l = (l.i ≤ l.n)
     × (l.bytes ≤ 110 * l.i)
     × (l.count + many_from l.from l.i (entry_at (decode l.table) l.p).node.recs ≡ many_from l.from 0 (entry_at (decode l.table) l.p).node.recs)
     × (l.bytes + bytes_from l.from l.i (entry_at (decode l.table) l.p).node.recs ≡ bytes_from l.from 0 (entry_at (decode l.table) l.p).node.recs)
-
-abbrev pub decreases-loop-i : goal.decreases-loop-i
-decreases-loop-i l = l.n - l.i

@@ -33,29 +33,29 @@ stale_places-stale-requires c =
 pub slice_bounds-write_max-count : goal.slice_bounds-write_max-count
 slice_bounds-write_max-count c =
     let at_entry : Writing = let a = c.args in writing 0 0 (line_at (decode a.table.now) a.p a.from a.count) a.datagram.now in
-    let size : ℕ = c.in-Bytes.size in
+    let size : ℕ = c.in-Some.size in
     let own-max : ℕ = (entry_at (decode c.args.table.now) c.args.p).node.max in
     let all : List KeyValue = stale c.args.from (entry_at (decode c.args.table.now) c.args.p).node.recs in
     let with-node : Bytes = back 0 c.args.datagram.now c.write_node.new.datagram in
     let node-reached : Reached (at_entry) (writing 1 (size) (body_ops (own-max) (take c.args.count (all)) ++ []) (with-node)) = left_is (sym (append-nil (body_ops (own-max) (take c.args.count (all)))))
-    (one-first (size) _ (with-node) (op-written c.write_node.ensures c.in-Bytes.is (at_first (at_entry).left c.args.datagram.now))) in
+    (one-first (size) _ (with-node) (op-written c.write_node.ensures c.in-Some.is (at_first (at_entry).left c.args.datagram.now))) in
     (node-reached).room
 
 pub slice_bounds-write_max-start : goal.slice_bounds-write_max-start
 slice_bounds-write_max-start c =
     let at_entry : Writing = let a = c.args in writing 0 0 (line_at (decode a.table.now) a.p a.from a.count) a.datagram.now in
-    let size : ℕ = c.in-Bytes.size in
+    let size : ℕ = c.in-Some.size in
     let own-max : ℕ = (entry_at (decode c.args.table.now) c.args.p).node.max in
     let all : List KeyValue = stale c.args.from (entry_at (decode c.args.table.now) c.args.p).node.recs in
     let with-node : Bytes = back 0 c.args.datagram.now c.write_node.new.datagram in
     let node-reached : Reached (at_entry) (writing 1 (size) (body_ops (own-max) (take c.args.count (all)) ++ []) (with-node)) = left_is (sym (append-nil (body_ops (own-max) (take c.args.count (all)))))
-    (one-first (size) _ (with-node) (op-written c.write_node.ensures c.in-Bytes.is (at_first (at_entry).left c.args.datagram.now))) in
+    (one-first (size) _ (with-node) (op-written c.write_node.ensures c.in-Some.is (at_first (at_entry).left c.args.datagram.now))) in
     (node-reached).room
 
 pub overflow_add-used : goal.overflow_add-used
 overflow_add-used c =
     let at_entry : Writing = let a = c.args in writing 0 0 (line_at (decode a.table.now) a.p a.from a.count) a.datagram.now in
-    let size : ℕ = c.in-Bytes.size in
+    let size : ℕ = c.in-Some.size in
     let n : ℕ = c.stale_places-stale.result.count in
     let k : ℕ = c.taken-count.result in
     let records : List Op = records_at (decode c.args.table.now) c.args.p (take (n - (n - k)) (listed (n) c.stale_places-stale.result.at)) in
@@ -75,7 +75,7 @@ overflow_add-used c =
     let own-max : ℕ = (entry_at (decode c.args.table.now) c.args.p).node.max in
     let sent-long : c.taken-count.result ≡ length (take c.args.count (all)) = sym (length-take-le c.taken-count.result (all) (subst (λ (m : ℕ). c.taken-count.result ≤ m) (sym (long)) (low))) ∙ ap length (sent-are) in
     let node-reached : Reached (at_entry) (writing 1 (size) (body_ops (own-max) (take c.args.count (all)) ++ []) (with-node)) = left_is (sym (append-nil (body_ops (own-max) (take c.args.count (all)))))
-    (one-first (size) _ (with-node) (op-written c.write_node.ensures c.in-Bytes.is (at_first (at_entry).left c.args.datagram.now))) in
+    (one-first (size) _ (with-node) (op-written c.write_node.ensures c.in-Some.is (at_first (at_entry).left c.args.datagram.now))) in
     let begun : let sent = c.write_max-max.result in
     Reached (at_entry) (writing (1 + sent.ops) (size + sent.bytes) (records) (with_max)) = left_is (records-are)
     (max-written (own-max) (take c.args.count (all)) (k) [] (sent-long) c.write_max-max.ensures (node-reached)) in
@@ -91,7 +91,7 @@ overflow_sub-n c =
 pub slice_bounds-write_records-count : goal.slice_bounds-write_records-count
 slice_bounds-write_records-count c =
     let at_entry : Writing = let a = c.args in writing 0 0 (line_at (decode a.table.now) a.p a.from a.count) a.datagram.now in
-    let size : ℕ = c.in-Bytes.size in
+    let size : ℕ = c.in-Some.size in
     let n : ℕ = c.stale_places-stale.result.count in
     let k : ℕ = c.taken-count.result in
     let records : List Op = records_at (decode c.args.table.now) c.args.p (take (n - (n - k)) (listed (n) c.stale_places-stale.result.at)) in
@@ -111,7 +111,7 @@ slice_bounds-write_records-count c =
     let own-max : ℕ = (entry_at (decode c.args.table.now) c.args.p).node.max in
     let sent-long : c.taken-count.result ≡ length (take c.args.count (all)) = sym (length-take-le c.taken-count.result (all) (subst (λ (m : ℕ). c.taken-count.result ≤ m) (sym (long)) (low))) ∙ ap length (sent-are) in
     let node-reached : Reached (at_entry) (writing 1 (size) (body_ops (own-max) (take c.args.count (all)) ++ []) (with-node)) = left_is (sym (append-nil (body_ops (own-max) (take c.args.count (all)))))
-    (one-first (size) _ (with-node) (op-written c.write_node.ensures c.in-Bytes.is (at_first (at_entry).left c.args.datagram.now))) in
+    (one-first (size) _ (with-node) (op-written c.write_node.ensures c.in-Some.is (at_first (at_entry).left c.args.datagram.now))) in
     let begun : let sent = c.write_max-max.result in
     Reached (at_entry) (writing (1 + sent.ops) (size + sent.bytes) (records) (with_max)) = left_is (records-are)
     (max-written (own-max) (take c.args.count (all)) (k) [] (sent-long) c.write_max-max.ensures (node-reached)) in
@@ -120,7 +120,7 @@ slice_bounds-write_records-count c =
 pub slice_bounds-write_records-start : goal.slice_bounds-write_records-start
 slice_bounds-write_records-start c =
     let at_entry : Writing = let a = c.args in writing 0 0 (line_at (decode a.table.now) a.p a.from a.count) a.datagram.now in
-    let size : ℕ = c.in-Bytes.size in
+    let size : ℕ = c.in-Some.size in
     let n : ℕ = c.stale_places-stale.result.count in
     let k : ℕ = c.taken-count.result in
     let records : List Op = records_at (decode c.args.table.now) c.args.p (take (n - (n - k)) (listed (n) c.stale_places-stale.result.at)) in
@@ -140,7 +140,7 @@ slice_bounds-write_records-start c =
     let own-max : ℕ = (entry_at (decode c.args.table.now) c.args.p).node.max in
     let sent-long : c.taken-count.result ≡ length (take c.args.count (all)) = sym (length-take-le c.taken-count.result (all) (subst (λ (m : ℕ). c.taken-count.result ≤ m) (sym (long)) (low))) ∙ ap length (sent-are) in
     let node-reached : Reached (at_entry) (writing 1 (size) (body_ops (own-max) (take c.args.count (all)) ++ []) (with-node)) = left_is (sym (append-nil (body_ops (own-max) (take c.args.count (all)))))
-    (one-first (size) _ (with-node) (op-written c.write_node.ensures c.in-Bytes.is (at_first (at_entry).left c.args.datagram.now))) in
+    (one-first (size) _ (with-node) (op-written c.write_node.ensures c.in-Some.is (at_first (at_entry).left c.args.datagram.now))) in
     let begun : let sent = c.write_max-max.result in
     Reached (at_entry) (writing (1 + sent.ops) (size + sent.bytes) (records) (with_max)) = left_is (records-are)
     (max-written (own-max) (take c.args.count (all)) (k) [] (sent-long) c.write_max-max.ensures (node-reached)) in
@@ -159,7 +159,7 @@ write_records-records-requires c =
 
 pub overflow_add-result : goal.overflow_add-result
 overflow_add-result c =
-    let size : ℕ = c.in-Bytes.size in
+    let size : ℕ = c.in-Some.size in
     let with-node : Bytes = back 0 c.args.datagram.now c.write_node.new.datagram in
     let with_max : Bytes = back (size) (with-node) c.write_max-max.new.datagram in
     let n : ℕ = c.stale_places-stale.result.count in
@@ -180,7 +180,7 @@ overflow_add-result c =
     let own-max : ℕ = (entry_at (decode c.args.table.now) c.args.p).node.max in
     let sent-long : c.taken-count.result ≡ length (take c.args.count (all)) = sym (length-take-le c.taken-count.result (all) (subst (λ (m : ℕ). c.taken-count.result ≤ m) (sym (long)) (low))) ∙ ap length (sent-are) in
     let node-reached : Reached (at_entry) (writing 1 (size) (body_ops (own-max) (take c.args.count (all)) ++ []) (with-node)) = left_is (sym (append-nil (body_ops (own-max) (take c.args.count (all)))))
-    (one-first (size) _ (with-node) (op-written c.write_node.ensures c.in-Bytes.is (at_first (at_entry).left c.args.datagram.now))) in
+    (one-first (size) _ (with-node) (op-written c.write_node.ensures c.in-Some.is (at_first (at_entry).left c.args.datagram.now))) in
     let begun : let sent = c.write_max-max.result in
     Reached (at_entry) (writing (1 + sent.ops) (size + sent.bytes) (records) (with_max)) = left_is (records-are)
     (max-written (own-max) (take c.args.count (all)) (k) [] (sent-long) c.write_max-max.ensures (node-reached)) in
@@ -193,7 +193,7 @@ overflow_add-result c =
 
 pub overflow_add-result-2 : goal.overflow_add-result-2
 overflow_add-result-2 c =
-    let size : ℕ = c.in-Bytes.size in
+    let size : ℕ = c.in-Some.size in
     let with-node : Bytes = back 0 c.args.datagram.now c.write_node.new.datagram in
     let with_max : Bytes = back (size) (with-node) c.write_max-max.new.datagram in
     let n : ℕ = c.stale_places-stale.result.count in
@@ -214,7 +214,7 @@ overflow_add-result-2 c =
     let own-max : ℕ = (entry_at (decode c.args.table.now) c.args.p).node.max in
     let sent-long : c.taken-count.result ≡ length (take c.args.count (all)) = sym (length-take-le c.taken-count.result (all) (subst (λ (m : ℕ). c.taken-count.result ≤ m) (sym (long)) (low))) ∙ ap length (sent-are) in
     let node-reached : Reached (at_entry) (writing 1 (size) (body_ops (own-max) (take c.args.count (all)) ++ []) (with-node)) = left_is (sym (append-nil (body_ops (own-max) (take c.args.count (all)))))
-    (one-first (size) _ (with-node) (op-written c.write_node.ensures c.in-Bytes.is (at_first (at_entry).left c.args.datagram.now))) in
+    (one-first (size) _ (with-node) (op-written c.write_node.ensures c.in-Some.is (at_first (at_entry).left c.args.datagram.now))) in
     let begun : let sent = c.write_max-max.result in
     Reached (at_entry) (writing (1 + sent.ops) (size + sent.bytes) (records) (with_max)) = left_is (records-are)
     (max-written (own-max) (take c.args.count (all)) (k) [] (sent-long) c.write_max-max.ensures (node-reached)) in
@@ -227,7 +227,7 @@ overflow_add-result-2 c =
 
 pub overflow_add-result-3 : goal.overflow_add-result-3
 overflow_add-result-3 c =
-    let size : ℕ = c.in-Bytes.size in
+    let size : ℕ = c.in-Some.size in
     let with-node : Bytes = back 0 c.args.datagram.now c.write_node.new.datagram in
     let with_max : Bytes = back (size) (with-node) c.write_max-max.new.datagram in
     let n : ℕ = c.stale_places-stale.result.count in
@@ -248,7 +248,7 @@ overflow_add-result-3 c =
     let own-max : ℕ = (entry_at (decode c.args.table.now) c.args.p).node.max in
     let sent-long : c.taken-count.result ≡ length (take c.args.count (all)) = sym (length-take-le c.taken-count.result (all) (subst (λ (m : ℕ). c.taken-count.result ≤ m) (sym (long)) (low))) ∙ ap length (sent-are) in
     let node-reached : Reached (at_entry) (writing 1 (size) (body_ops (own-max) (take c.args.count (all)) ++ []) (with-node)) = left_is (sym (append-nil (body_ops (own-max) (take c.args.count (all)))))
-    (one-first (size) _ (with-node) (op-written c.write_node.ensures c.in-Bytes.is (at_first (at_entry).left c.args.datagram.now))) in
+    (one-first (size) _ (with-node) (op-written c.write_node.ensures c.in-Some.is (at_first (at_entry).left c.args.datagram.now))) in
     let begun : let sent = c.write_max-max.result in
     Reached (at_entry) (writing (1 + sent.ops) (size + sent.bytes) (records) (with_max)) = left_is (records-are)
     (max-written (own-max) (take c.args.count (all)) (k) [] (sent-long) c.write_max-max.ensures (node-reached)) in
@@ -264,7 +264,7 @@ shape_of-datagram c =
     let n : ℕ = c.stale_places-stale.result.count in
     let k : ℕ = c.taken-count.result in
     let records : List Op = records_at (decode c.args.table.now) c.args.p (take (n - (n - k)) (listed (n) c.stale_places-stale.result.at)) in
-    let size : ℕ = c.in-Bytes.size in
+    let size : ℕ = c.in-Some.size in
     let with-node : Bytes = back 0 c.args.datagram.now c.write_node.new.datagram in
     let with_max : Bytes = back (size) (with-node) c.write_max-max.new.datagram in
     let at_entry : Writing = let a = c.args in writing 0 0 (line_at (decode a.table.now) a.p a.from a.count) a.datagram.now in
@@ -282,7 +282,7 @@ shape_of-datagram c =
     let own-max : ℕ = (entry_at (decode c.args.table.now) c.args.p).node.max in
     let sent-long : c.taken-count.result ≡ length (take c.args.count (all)) = sym (length-take-le c.taken-count.result (all) (subst (λ (m : ℕ). c.taken-count.result ≤ m) (sym (long)) (low))) ∙ ap length (sent-are) in
     let node-reached : Reached (at_entry) (writing 1 (size) (body_ops (own-max) (take c.args.count (all)) ++ []) (with-node)) = left_is (sym (append-nil (body_ops (own-max) (take c.args.count (all)))))
-    (one-first (size) _ (with-node) (op-written c.write_node.ensures c.in-Bytes.is (at_first (at_entry).left c.args.datagram.now))) in
+    (one-first (size) _ (with-node) (op-written c.write_node.ensures c.in-Some.is (at_first (at_entry).left c.args.datagram.now))) in
     let begun : let sent = c.write_max-max.result in
     Reached (at_entry) (writing (1 + sent.ops) (size + sent.bytes) (records) (with_max)) = left_is (records-are)
     (max-written (own-max) (take c.args.count (all)) (k) [] (sent-long) c.write_max-max.ensures (node-reached)) in
@@ -293,7 +293,7 @@ returns c =
     let n : ℕ = c.stale_places-stale.result.count in
     let k : ℕ = c.taken-count.result in
     let records : List Op = records_at (decode c.args.table.now) c.args.p (take (n - (n - k)) (listed (n) c.stale_places-stale.result.at)) in
-    let size : ℕ = c.in-Bytes.size in
+    let size : ℕ = c.in-Some.size in
     let with-node : Bytes = back 0 c.args.datagram.now c.write_node.new.datagram in
     let with_max : Bytes = back (size) (with-node) c.write_max-max.new.datagram in
     let at_entry : Writing = let a = c.args in writing 0 0 (line_at (decode a.table.now) a.p a.from a.count) a.datagram.now in
@@ -311,7 +311,7 @@ returns c =
     let own-max : ℕ = (entry_at (decode c.args.table.now) c.args.p).node.max in
     let sent-long : c.taken-count.result ≡ length (take c.args.count (all)) = sym (length-take-le c.taken-count.result (all) (subst (λ (m : ℕ). c.taken-count.result ≤ m) (sym (long)) (low))) ∙ ap length (sent-are) in
     let node-reached : Reached (at_entry) (writing 1 (size) (body_ops (own-max) (take c.args.count (all)) ++ []) (with-node)) = left_is (sym (append-nil (body_ops (own-max) (take c.args.count (all)))))
-    (one-first (size) _ (with-node) (op-written c.write_node.ensures c.in-Bytes.is (at_first (at_entry).left c.args.datagram.now))) in
+    (one-first (size) _ (with-node) (op-written c.write_node.ensures c.in-Some.is (at_first (at_entry).left c.args.datagram.now))) in
     let begun : let sent = c.write_max-max.result in
     Reached (at_entry) (writing (1 + sent.ops) (size + sent.bytes) (records) (with_max)) = left_is (records-are)
     (max-written (own-max) (take c.args.count (all)) (k) [] (sent-long) c.write_max-max.ensures (node-reached)) in

@@ -48,7 +48,7 @@ pub returns : goal.returns
 returns c =
     let found_at : find_node c.args.number (decode c.args.table.now) ≡ At c.in-At.p = sym c.find_node.ensures ∙ c.in-At.is in
     let a = c.args in
-    let is = told-stale a.excluded.now (entries_in a.digest) (decode a.table.now) _ _ c.stale_from.ensures _ c.in-From.is in
+    let is = told-stale a.excluded.now (entries_in a.digest) (decode a.table.now) _ _ c.stale_from.ensures _ c.in-Some.is in
     let ops = named-stale a.table.now c.requires.0 a.number _ (found_at) a.excluded.now (entries_in a.digest) is.0 _ is.1 a.count in
     let fits = subst (λ (os : List Op). length (delta_bytes os) ≤ length a.datagram.now) ops c.requires.1 in
     gives_as (sent-whole _ a.datagram.now fits ∙ ap (λ (os : List Op). at_front os a.datagram.now) (sym ops)) c.write_line.ensures

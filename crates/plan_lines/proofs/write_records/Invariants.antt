@@ -13,6 +13,3 @@ invariant-loop-k l = (l.k ≤ l.n)
     × (l.end ≤ l.k)
     × AllBelow (length (entry_at (decode l.table) l.p).node.recs) (listed l.k l.at)
     × Reached (writing 0 0 (records_at (decode l.table) l.p (take (l.n - l.end) (listed l.n l.at))) l.initial.datagram) (writing l.ops l.used (records_at (decode l.table) l.p (take (l.k - l.end) (listed l.k l.at))) l.datagram)
-
-abbrev pub decreases-loop-k : goal.decreases-loop-k
-decreases-loop-k l = l.k

@@ -3,7 +3,7 @@ use mathlib.Core.Path.{sym, ◌∙◌}
 use Rattle.rules.specs.Answers.{listed_told}
 use Rattle.rules.specs.Local.{prefixed_as}
 use Rattle.rules.specs.Whole.{decode_whole}
-use Rattle.rules.specs.declared.Listed.TheVariants.{Refused}
+use Rattle.std.specs.Prelude.{Err}
 use Rattle.rules.specs.declared.Refusal.TheVariants.{BadTable}
 use Rattle.rules.proofs.Unique.{tells}
 use Rattle.table_read.proofs.Entry.{fill-bad}
@@ -21,4 +21,4 @@ pub returns-else-check_table : goal.returns-else-check_table
 returns-else-check_table c =
     let a = c.args in
     tells listed_told
-    (fill-bad (λ t. prefixed_as (decode_whole a.table.now).kind.profile a.party a.number a.prefix.now t a.out.now) a.table.now c.check_table.ensures c.if-check_table.false (Refused BadTable) a.out.now)
+    (fill-bad (λ t. prefixed_as (decode_whole a.table.now).kind.profile a.party a.number a.prefix.now t a.out.now) a.table.now c.check_table.ensures c.if-check_table.false (Err BadTable) a.out.now)

@@ -6,7 +6,7 @@ use Rattle.rules.specs.Layout.{decode}
 use Rattle.rules.specs.Whole.{area_of, decode_whole}
 use Rattle.rules.specs.declared.Profile.{Profile}
 use Rattle.rules.specs.declared.Refusal.TheVariants.{BadTable}
-use Rattle.inspect.specs.declared.Rows.TheVariants.{Refused}
+use Rattle.std.specs.Prelude.{Err}
 use Rattle.table.proofs.Wholes.{area-formed, area-valid, whole_long}
 use Rattle.table_read.proofs.Entry.{read-good}
 use Rattle.table_check.proofs.Entry.{area-long}
@@ -29,5 +29,5 @@ rows_seen-requires c =
 pub returns : goal.returns
 returns c =
     let a = c.args in
-    read-good (Refused BadTable) (prefix_rows_as (decode_whole a.table.now).kind.profile a.party a.number a.prefix.now) a.table.now refl c.requires _
+    read-good (Err BadTable) (prefix_rows_as (decode_whole a.table.now).kind.profile a.party a.number a.prefix.now) a.table.now refl c.requires _
     (c.rows_seen.ensures ∙ ap (λ (x : Profile). prefix_rows_as x a.party a.number a.prefix.now (decode (area_of a.table.now))) c.profile_of-profile.ensures)

@@ -3,7 +3,7 @@ use Prim.Native.Nat.{ℕ, ◌+◌}
 use mathlib.Core.Path.{ap, ap₂, ◌∙◌}
 use native.Mathlib.Omega.{arith}
 use Rattle.rules.specs.Layout.{rec_place}
-use Rattle.inspect.specs.declared.Rows.TheVariants.{Are}
+use Rattle.std.specs.Prelude.{Ok}
 use Rattle.table_read.proofs.Reading.{short-says, long-says}
 use Rattle.prefix.proofs.Counted.{first_counted, run-counted}
 use Rattle.prefix.proofs.rows_in.Goals as goal
@@ -34,6 +34,6 @@ pub returns : goal.returns
 returns c =
     let r = c.run_in-run.ensures in
     short-says _ _ c.args.prefix.now c.if-prefix-gt-KEY.false _
-    (ap₂ Are
+    (ap₂ (λ a b. Ok (record { at = a; count = b }))
     (ap (λ (i : ℕ). c.args.start + i) (c.record_place.ensures ∙ ap rec_place (first_counted c.args.prefix.now c.args.node.now _ _ _ _ c.requires.2 r)))
     (run-counted c.args.prefix.now c.args.node.now _ _ _ _ c.requires.2 r))

@@ -5,74 +5,70 @@ use mathlib.Core.Bool.{true}
 use mathlib.Core.List.{List}
 use mathlib.Core.Option.{Option}
 use lib.ListN.{take, drop}
+use native.Mathlib.Omega.{arith}
+use Rattle.std.specs.Prelude.{None, Some}
+use Rattle.std.proofs.lemmas.Result.{err_from_is_err_and}
+use Rattle.rules.specs.declared.Refusal.TheVariants.{NoNode}
 use Rattle.rules.specs.Node.{Node}
 use Rattle.rules.specs.Table.{keys_rise}
 use Rattle.rules.specs.Profile.{recs_formed}
 use Rattle.rules.specs.Layout.{decode}
 use Rattle.table.specs.Tests.{recs_in}
-use Rattle.table_read.proofs.Reading.{lent-node-needs, lent_below, lent_laid, lent-rises, node-stands, no-node-stands}
+use Rattle.table_read.proofs.Reading.{lent_fits, lent_below, lent_laid, lent-rises, node-stands, no-node-stands}
 use Rattle.own_rows.specs.Sight.{seen_held}
 use Rattle.own_rows.proofs.Tables.{lent-formed, seen-stands}
 use Rattle.prefix.specs.Rows.{prefix_rows_on}
 use Rattle.prefix.proofs.Seen.{piece-within, seen-says}
 use Rattle.prefix.proofs.rows_seen.Goals as goal
 
-pub slice_bounds-sight_of-count : goal.slice_bounds-sight_of-count
-slice_bounds-sight_of-count c =
-    search lent-node-needs
-
-pub slice_bounds-sight_of-start : goal.slice_bounds-sight_of-start
-slice_bounds-sight_of-start c =
-    search lent-node-needs
+pub returns-in_err-span : goal.returns-in_err-span
+returns-in_err-span c =
+    let p = c.args.profile in
+    let q = c.args.party in
+    let k = c.args.prefix.now in
+    let h : c.node_span.result ≡ None = grind arith in
+    let why : c.in_err-span.field-0.0 ≡ NoNode = grind arith in
+    let e = err_from_is_err_and c.from_residual.result c.from_residual.ensures.1 in
+    rw (e.1, e.2, why)
+    (no-node-stands (λ (x : List ℕ) (n : ℕ) (o : Option Node). prefix_rows_on x n (seen_held p q o)) k _ _ c.requires.0 c.node_span.ensures h
+    ∙ seen-stands prefix_rows_on k p q c.args.number (decode c.args.area.now))
 
 pub slice_bounds-sight_of-end : goal.slice_bounds-sight_of-end
 slice_bounds-sight_of-end c =
-    search lent-node-needs
+    let h : c.node_span.result ≡ Some c.in_ok-span.span = grind arith in
+    lent_fits _ _ c.requires.0 c.node_span.ensures h
 
 pub sight_of-sight-requires : goal.sight_of-sight-requires
 sight_of-sight-requires c =
-    let lent : List ℕ = take (c.in-Held.end - c.in-Held.start) (drop c.in-Held.start c.args.area.now) in
-    let rises : keys_rise (recs_in (lent)) ≡ true = lent-rises _ _ c.requires.0 c.node_span.ensures c.in-Held.is in
-    let formed : recs_formed c.args.profile (recs_in (lent)) ≡ true = lent-formed _ _ c.requires.0 c.node_span.ensures c.in-Held.is c.args.profile c.requires.1 in
-    (lent_laid _ _ c.requires.0 c.node_span.ensures c.in-Held.is, rises, formed)
-
-pub slice_bounds-rows_in-count : goal.slice_bounds-rows_in-count
-slice_bounds-rows_in-count c =
-    search lent-node-needs
-
-pub slice_bounds-rows_in-start : goal.slice_bounds-rows_in-start
-slice_bounds-rows_in-start c =
-    search lent-node-needs
+    let h : c.node_span.result ≡ Some c.in_ok-span.span = grind arith in
+    let lent : List ℕ = take (c.in_ok-span.span.end - c.in_ok-span.span.start) (drop c.in_ok-span.span.start c.args.area.now) in
+    let rises : keys_rise (recs_in (lent)) ≡ true = lent-rises _ _ c.requires.0 c.node_span.ensures h in
+    let formed : recs_formed c.args.profile (recs_in (lent)) ≡ true = lent-formed _ _ c.requires.0 c.node_span.ensures h c.args.profile c.requires.1 in
+    (lent_laid _ _ c.requires.0 c.node_span.ensures h, rises, formed)
 
 pub slice_bounds-rows_in-end : goal.slice_bounds-rows_in-end
 slice_bounds-rows_in-end c =
-    search lent-node-needs
+    let h : c.node_span.result ≡ Some c.in_ok-span.span = grind arith in
+    lent_fits _ _ c.requires.0 c.node_span.ensures h
 
 pub rows_in-requires : goal.rows_in-requires
 rows_in-requires c =
-    let lent : List ℕ = take (c.in-Held.end - c.in-Held.start) (drop c.in-Held.start c.args.area.now) in
-    let rises : keys_rise (recs_in (lent)) ≡ true = lent-rises _ _ c.requires.0 c.node_span.ensures c.in-Held.is in
-    let formed : recs_formed c.args.profile (recs_in (lent)) ≡ true = lent-formed _ _ c.requires.0 c.node_span.ensures c.in-Held.is c.args.profile c.requires.1 in
+    let h : c.node_span.result ≡ Some c.in_ok-span.span = grind arith in
+    let lent : List ℕ = take (c.in_ok-span.span.end - c.in_ok-span.span.start) (drop c.in_ok-span.span.start c.args.area.now) in
+    let rises : keys_rise (recs_in (lent)) ≡ true = lent-rises _ _ c.requires.0 c.node_span.ensures h in
+    let formed : recs_formed c.args.profile (recs_in (lent)) ≡ true = lent-formed _ _ c.requires.0 c.node_span.ensures h c.args.profile c.requires.1 in
     let i = c.node_span.ensures in
-    let h = c.in-Held.is in
     (lent_laid _ _ c.requires.0 i h, rises, piece-within c.args.profile c.args.party (lent) (rises) (formed) _ c.sight_of-sight.ensures, lent_below _ _ c.requires.0 i h)
 
-pub returns-in-Held : goal.returns-in-Held
-returns-in-Held c =
-    let lent : List ℕ = take (c.in-Held.end - c.in-Held.start) (drop c.in-Held.start c.args.area.now) in
-    let rises : keys_rise (recs_in (lent)) ≡ true = lent-rises _ _ c.requires.0 c.node_span.ensures c.in-Held.is in
-    let formed : recs_formed c.args.profile (recs_in (lent)) ≡ true = lent-formed _ _ c.requires.0 c.node_span.ensures c.in-Held.is c.args.profile c.requires.1 in
+pub returns : goal.returns
+returns c =
+    let h : c.node_span.result ≡ Some c.in_ok-span.span = grind arith in
+    let lent : List ℕ = take (c.in_ok-span.span.end - c.in_ok-span.span.start) (drop c.in_ok-span.span.start c.args.area.now) in
+    let rises : keys_rise (recs_in (lent)) ≡ true = lent-rises _ _ c.requires.0 c.node_span.ensures h in
+    let formed : recs_formed c.args.profile (recs_in (lent)) ≡ true = lent-formed _ _ c.requires.0 c.node_span.ensures h c.args.profile c.requires.1 in
     let p = c.args.profile in
     let q = c.args.party in
     let k = c.args.prefix.now in
-    node-stands (λ (x : List ℕ) (n : ℕ) (o : Option Node). prefix_rows_on x n (seen_held p q o)) k _ _ c.requires.0 c.node_span.ensures c.in-Held.is _
+    node-stands (λ (x : List ℕ) (n : ℕ) (o : Option Node). prefix_rows_on x n (seen_held p q o)) k _ _ c.requires.0 c.node_span.ensures h _
     (seen-says p q (lent) (rises) (formed) _ c.sight_of-sight.ensures k _ _ c.rows_in.ensures)
-    ∙ seen-stands prefix_rows_on k p q c.args.number (decode c.args.area.now)
-
-pub returns-in-Missing : goal.returns-in-Missing
-returns-in-Missing c =
-    let p = c.args.profile in
-    let q = c.args.party in
-    let k = c.args.prefix.now in
-    no-node-stands (λ (x : List ℕ) (n : ℕ) (o : Option Node). prefix_rows_on x n (seen_held p q o)) k _ _ c.requires.0 c.node_span.ensures c.in-Missing.is
     ∙ seen-stands prefix_rows_on k p q c.args.number (decode c.args.area.now)

@@ -42,14 +42,6 @@ overflow_add-next c =
     let within : c.loop-j.j < count_of c.args.node.now = omega (arith, c.loop-j-test.true, c.requires.3) in
     omega (arith, c.loop-j.invariant.1, within, c.requires.0.few)
 
-pub overflow_add-j : goal.overflow_add-j
-overflow_add-j c =
-    let within : c.loop-j.j < count_of c.args.node.now = omega (arith, c.loop-j-test.true, c.requires.3) in
-    omega (arith, within, c.requires.0.few)
-
-pub loop-j-smaller : goal.loop-j-smaller
-loop-j-smaller c = omega (arith, c.loop-j-test.true)
-
 pub loop-j-preserved : goal.loop-j-preserved
 loop-j-preserved c =
     let b : List ℕ = c.args.node.now in

@@ -1,5 +1,5 @@
 -- `prefix::write_shown` meets its contract: what is left to be written gives the whole list. Assumes nothing.
-use Prim.Native.Nat.{◌+◌, ◌-◌, ◌≤◌}
+use Prim.Native.Nat.{◌+◌, ◌≤◌}
 use mathlib.Core.Path.{◌≡◌}
 use lib.ListN.{length}
 use Rattle.fields.specs.Parts.{put}
@@ -14,6 +14,3 @@ invariant-loop-j l =
     × (l.next + length (shown_in l.base l.j l.high l.node) ≡ length (shown_in l.base l.low l.high l.node))
     × (put l.next (shown_in l.base l.j l.high l.node) l.out ≡ put 0 (shown_in l.base l.low l.high l.node) l.initial.out)
     × (l.base ≤ l.j)
-
-abbrev pub decreases-loop-j : goal.decreases-loop-j
-decreases-loop-j l = l.high - l.j

@@ -10,7 +10,7 @@ use Rattle.profile_check.proofs.check_forms.Goals as goal
 pub loop-i-init : goal.loop-i-init
 unfolding table_formed
 loop-i-init c =
-    (omega arith, refl)
+    refl
 
 pub node_formed-requires : goal.node_formed-requires
 node_formed-requires c =
@@ -19,14 +19,14 @@ node_formed-requires c =
 pub loop-i-preserved : goal.loop-i-preserved
 loop-i-preserved c =
     let a = c.args in
-    (omega arith, node-on (recs_formed a.profile) a.area.now c.loop-i.i (omega arith) _ c.node_of.ensures c.node_formed.ensures c.if-node_formed.true ∙ c.loop-i.invariant.1)
+    node-on (recs_formed a.profile) a.area.now c.loop-i.i (omega arith) _ c.node_of.ensures c.node_formed.ensures c.if-not-node_formed.false ∙ c.loop-i.invariant
 
-pub returns-else-node_formed : goal.returns-else-node_formed
-returns-else-node_formed c =
+pub returns-then-not-node_formed : goal.returns-then-not-node_formed
+returns-then-not-node_formed c =
     let a = c.args in
-    sym (node-stop (recs_formed a.profile) a.area.now c.loop-i.i (omega arith) _ c.node_of.ensures c.node_formed.ensures c.if-node_formed.false) ∙ c.loop-i.invariant.1
+    sym (node-stop (recs_formed a.profile) a.area.now c.loop-i.i (omega arith) _ c.node_of.ensures c.node_formed.ensures c.if-not-node_formed.true) ∙ c.loop-i.invariant
 
 pub returns : goal.returns
 returns c =
     let a = c.args in
-    sym (no_node (recs_formed a.profile) a.area.now c.loop-i.i (omega arith)) ∙ c.loop-i.invariant.1
+    sym (no_node (recs_formed a.profile) a.area.now c.loop-i.i (omega arith)) ∙ c.loop-i.invariant

@@ -1,5 +1,4 @@
 -- `profile_check::check_forms` meets its contract: the nodes that are left decide. Assumes nothing.
-use Prim.Native.Nat.{◌-◌, ◌≤◌}
 use mathlib.Core.Path.{◌≡◌}
 use lib.ListN.{drop}
 use Rattle.rules.specs.Layout.{decode}
@@ -8,7 +7,4 @@ use Rattle.profile_check.proofs.Formed.{each}
 use Rattle.profile_check.proofs.check_forms.Given as goal
 
 abbrev pub invariant-loop-i : goal.invariant-loop-i
-invariant-loop-i l = (l.i ≤ l.n) × (each (recs_formed l.profile) (drop l.i (decode l.area)) ≡ table_formed l.profile (decode l.area))
-
-abbrev pub decreases-loop-i : goal.decreases-loop-i
-decreases-loop-i l = l.n - l.i
+invariant-loop-i l = each (recs_formed l.profile) (drop l.i (decode l.area)) ≡ table_formed l.profile (decode l.area)

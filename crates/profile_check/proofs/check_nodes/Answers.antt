@@ -10,7 +10,7 @@ use Rattle.profile_check.proofs.check_nodes.Goals as goal
 pub loop-i-init : goal.loop-i-init
 unfolding profile_obeys
 loop-i-init c =
-    (omega arith, refl)
+    refl
 
 pub node_obeys-requires : goal.node_obeys-requires
 node_obeys-requires c =
@@ -19,14 +19,14 @@ node_obeys-requires c =
 pub loop-i-preserved : goal.loop-i-preserved
 loop-i-preserved c =
     let a = c.args in
-    (omega arith, node-on (recs_obey a.profile) a.area.now c.loop-i.i (omega arith) _ c.node_of.ensures c.node_obeys.ensures c.if-node_obeys.true ∙ c.loop-i.invariant.1)
+    node-on (recs_obey a.profile) a.area.now c.loop-i.i (omega arith) _ c.node_of.ensures c.node_obeys.ensures c.if-not-node_obeys.false ∙ c.loop-i.invariant
 
-pub returns-else-node_obeys : goal.returns-else-node_obeys
-returns-else-node_obeys c =
+pub returns-then-not-node_obeys : goal.returns-then-not-node_obeys
+returns-then-not-node_obeys c =
     let a = c.args in
-    sym (node-stop (recs_obey a.profile) a.area.now c.loop-i.i (omega arith) _ c.node_of.ensures c.node_obeys.ensures c.if-node_obeys.false) ∙ c.loop-i.invariant.1
+    sym (node-stop (recs_obey a.profile) a.area.now c.loop-i.i (omega arith) _ c.node_of.ensures c.node_obeys.ensures c.if-not-node_obeys.true) ∙ c.loop-i.invariant
 
 pub returns : goal.returns
 returns c =
     let a = c.args in
-    sym (no_node (recs_obey a.profile) a.area.now c.loop-i.i (omega arith)) ∙ c.loop-i.invariant.1
+    sym (no_node (recs_obey a.profile) a.area.now c.loop-i.i (omega arith)) ∙ c.loop-i.invariant

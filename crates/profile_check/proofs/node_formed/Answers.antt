@@ -12,7 +12,7 @@ use Rattle.profile_check.proofs.node_formed.Goals as goal
 
 pub loop-i-init : goal.loop-i-init
 loop-i-init c =
-    (omega arith, refl)
+    refl
 
 pub record_formed-requires : goal.record_formed-requires
 record_formed-requires c =
@@ -26,14 +26,14 @@ record_formed-requires c =
 pub loop-i-preserved : goal.loop-i-preserved
 loop-i-preserved c =
     let a = c.args in
-    (omega arith, record-on a.profile a.node.now c.loop-i.i (omega arith) _ c.record_of.ensures c.record_formed.ensures c.if-record_formed.true ∙ c.loop-i.invariant.1)
+    record-on a.profile a.node.now c.loop-i.i (omega arith) _ c.record_of.ensures c.record_formed.ensures c.if-not-record_formed.false ∙ c.loop-i.invariant
 
-pub returns-else-record_formed : goal.returns-else-record_formed
-returns-else-record_formed c =
+pub returns-then-not-record_formed : goal.returns-then-not-record_formed
+returns-then-not-record_formed c =
     let a = c.args in
-    sym (record-stop a.profile a.node.now c.loop-i.i (omega arith) _ c.record_of.ensures c.record_formed.ensures c.if-record_formed.false) ∙ c.loop-i.invariant.1
+    sym (record-stop a.profile a.node.now c.loop-i.i (omega arith) _ c.record_of.ensures c.record_formed.ensures c.if-not-record_formed.true) ∙ c.loop-i.invariant
 
 pub returns : goal.returns
 returns c =
     let a = c.args in
-    sym (no_record a.profile a.node.now c.loop-i.i (omega arith)) ∙ c.loop-i.invariant.1
+    sym (no_record a.profile a.node.now c.loop-i.i (omega arith)) ∙ c.loop-i.invariant

@@ -1,8 +1,8 @@
 -- `record_check::check_record` meets its contract: a test that fails is one of the record's tests, and past all but the zeros only these are left.
 -- Assumes nothing.
 use Prim.Native.Nat.{ℕ, ◌≤◌}
-use mathlib.Core.Path.{◌≡◌, ◌∙◌, sym}
-use mathlib.Core.Bool.{true, ◌&&◌}
+use mathlib.Core.Path.{◌≡◌, ◌∙◌, ap, sym}
+use mathlib.Core.Bool.{Bool, true, false, ◌&&◌}
 use mathlib.Core.List.{List}
 use native.Mathlib.Omega.{arith}
 use borrow.Author.Tests.{le-leb, lt-leb}
@@ -16,12 +16,20 @@ use Rattle.table.specs.Tests.{rec_good, key_length, value_length, version_of, cl
 use Rattle.table.proofs.Records.{rec-stop}
 use Rattle.record_check.proofs.check_record.Goals as goal
 
--- past the five tests only the zeros are left
-past : (max : ℕ) (b : List ℕ) (k v : ℕ) → k ≡ key_length b → v ≡ value_length b → key_length b ≤ max_key → value_length b ≤ max_value → 1 ≤ version_of b → version_of b ≤ max
-    → nat_of (part (offset rec_widths 5) 1 b) ≤ 2 → rec_good max b ≡ (clean (offset rec_widths 1) max_key k b && (clean (offset rec_widths 3) max_value v b && true))
-unfolding rec_good
-past max b k v ek ev h1 h2 h3 h4 h5 =
-    rw (ek, ev, rec_good, le-leb (key_length b) max_key h1, le-leb (value_length b) max_value h2, le-leb 1 (version_of b) h3, le-leb (version_of b) max h4, le-leb (nat_of (part (offset rec_widths 5) 1 b)) 2 h5)
+-- past the five tests only the zeros are left, and those behind the key come first
+module _ (max : ℕ) (b : List ℕ) (k v : ℕ) (ek : k ≡ key_length b) (ev : v ≡ value_length b) (h1 : k ≤ max_key) (h2 : v ≤ max_value) (h3 : 1 ≤ version_of b) (h4 : version_of b ≤ max)
+    (h5 : nat_of (part (offset rec_widths 5) 1 b) ≤ 2) {t : Bool} (is : t ≡ clean (offset rec_widths 1) max_key k b) where
+  past : rec_good max b ≡ (t && clean (offset rec_widths 3) max_value v b)
+  unfolding rec_good
+  past =
+      rw (is, ek, ev, rec_good, le-leb (key_length b) max_key (omega arith), le-leb (value_length b) max_value (omega arith), le-leb 1 (version_of b) h3, le-leb (version_of b) max h4, le-leb (nat_of (part (offset rec_widths 5) 1 b)) 2 h5)
+      (ap (λ (u : Bool). clean (offset rec_widths 1) max_key (key_length b) b && u) (and_last _))
+
+  zeros : t ≡ true → clean (offset rec_widths 3) max_value v b ≡ rec_good max b
+  zeros e = sym (past ∙ and_yes _ _ e)
+
+  dirt : t ≡ false → false ≡ rec_good max b
+  dirt e = sym (past ∙ and_no _ _ e)
 
 pub returns-then-k-gt-KEY : goal.returns-then-k-gt-KEY
 returns-then-k-gt-KEY c =
@@ -50,22 +58,11 @@ returns-then-byte_at-gt2 c =
 
 pub returns-then-clean_behind : goal.returns-then-clean_behind
 returns-then-clean_behind c =
-    let passed : let b : List ℕ = c.args.«record».now in
-    let max : ℕ = c.args.max in
-    let k : ℕ = c.byte_at-k.result in
-    let v : ℕ = c.byte_at-v.result in
-    rec_good max b ≡ (clean (offset rec_widths 1) max_key k b && (clean (offset rec_widths 3) max_value v b && true)) = let a = c.args in
-    past a.max a.«record».now c.byte_at-k.result c.byte_at-v.result c.byte_at-k.ensures.0 c.byte_at-v.ensures.0
-    (omega arith) (omega arith) (omega arith) (omega arith) (omega arith) in
-    sym (passed ∙ and_yes _ _ (sym c.clean_behind.ensures ∙ c.if-clean_behind.true) ∙ and_last _ ∙ sym c.clean_behind-then-clean_behind.ensures)
+    let a = c.args in
+    c.clean_behind-then-clean_behind.ensures
+    ∙ zeros a.max a.«record».now _ _ c.byte_at-k.ensures.0 c.byte_at-v.ensures.0 (omega arith) (omega arith) (omega arith) (omega arith) (omega arith) c.clean_behind.ensures c.if-clean_behind.true
 
 pub returns-else-clean_behind : goal.returns-else-clean_behind
 returns-else-clean_behind c =
-    let passed : let b : List ℕ = c.args.«record».now in
-    let max : ℕ = c.args.max in
-    let k : ℕ = c.byte_at-k.result in
-    let v : ℕ = c.byte_at-v.result in
-    rec_good max b ≡ (clean (offset rec_widths 1) max_key k b && (clean (offset rec_widths 3) max_value v b && true)) = let a = c.args in
-    past a.max a.«record».now c.byte_at-k.result c.byte_at-v.result c.byte_at-k.ensures.0 c.byte_at-v.ensures.0
-    (omega arith) (omega arith) (omega arith) (omega arith) (omega arith) in
-    sym (passed ∙ and_no _ _ (sym c.clean_behind.ensures ∙ c.if-clean_behind.false))
+    let a = c.args in
+    dirt a.max a.«record».now _ _ c.byte_at-k.ensures.0 c.byte_at-v.ensures.0 (omega arith) (omega arith) (omega arith) (omega arith) (omega arith) c.clean_behind.ensures c.if-clean_behind.false

@@ -14,7 +14,7 @@ use Rattle.record_check.proofs.check_records.Goals as goal
 
 pub loop-i-init : goal.loop-i-init
 loop-i-init c =
-    (omega arith, rw sub-zero refl)
+    rw sub-zero refl
 
 pub check_record-requires : goal.check_record-requires
 check_record-requires c =
@@ -27,18 +27,18 @@ loop-i-preserved c =
     let i : ℕ = c.loop-i.i in
     let flag = sym (ap (rec_good a.max) c.record_of.ensures) ∙ sym c.check_record.ensures in
     let e = blocks-turn (rec_good a.max) rec_width (rec_place 0) a.n i a.node.now (omega arith) in
-    (omega arith, sym (e ∙ and_yes _ _ (flag ∙ c.if-check_record.true)) ∙ c.loop-i.invariant.1)
+    sym (e ∙ and_yes _ _ (flag ∙ c.if-not-check_record.false)) ∙ c.loop-i.invariant
 
-pub returns-else-check_record : goal.returns-else-check_record
-returns-else-check_record c =
+pub returns-then-not-check_record : goal.returns-then-not-check_record
+returns-then-not-check_record c =
     let a = c.args in
     let i : ℕ = c.loop-i.i in
     let flag = sym (ap (rec_good a.max) c.record_of.ensures) ∙ sym c.check_record.ensures in
     let e = blocks-turn (rec_good a.max) rec_width (rec_place 0) a.n i a.node.now (omega arith) in
-    sym (e ∙ and_no _ _ (flag ∙ c.if-check_record.false)) ∙ c.loop-i.invariant.1
+    sym (e ∙ and_no _ _ (flag ∙ c.if-not-check_record.true)) ∙ c.loop-i.invariant
 
 pub returns : goal.returns
 unfolding all_blocks
 returns c =
     let z : c.args.n - c.loop-i.i ≡ 0 = omega arith in
-    rw z at c.loop-i.invariant.1
+    rw z at c.loop-i.invariant

@@ -93,7 +93,7 @@ module _ (at k i d : ℕ) (l : List ℕ) (fits : at + i < length l) (long : k �
 
 pub loop-i-init : goal.loop-i-init
 loop-i-init c =
-    (omega arith, none (c.args.at + c.args.k) c.args.k c.args.«record».now)
+    none (c.args.at + c.args.k) c.args.k c.args.«record».now
 
 pub bounds-m-k : goal.bounds-m-k
 bounds-m-k c =
@@ -103,14 +103,12 @@ pub loop-i-preserved : goal.loop-i-preserved
 loop-i-preserved c =
     let a = c.args in
     let i : ℕ = c.loop-i.i in
-    let d : ℕ = c.loop-i.seen in (
-      omega arith,
-      ap (λ (m : List ℕ). eqb (bit_or d (bit_and (get_or a.«record».now (a.at + i) 0) (get_or m (max_value - a.k + i) 0))) 0) c.requires.3
-          ∙ turn a.at a.k i d a.«record».now (omega arith) (omega arith) (omega arith) (c.shared_slice_known-1.given (a.at + i)).fits c.loop-i.invariant.1,
-    )
+    let d : ℕ = c.loop-i.seen in
+    ap (λ (m : List ℕ). eqb (bit_or d (bit_and (get_or a.«record».now (a.at + i) 0) (get_or m (max_value - a.k + i) 0))) 0) c.requires.3
+    ∙ turn a.at a.k i d a.«record».now (omega arith) (omega arith) (omega arith) (c.type_inv.«record» (a.at + i)).fits c.loop-i.invariant
 
 pub returns : goal.returns
 returns c =
     let a = c.args in
     let p : c.loop-i.i ≡ a.n = omega arith in
-    c.loop-i.invariant.1 ∙ ap (λ (j : ℕ). all_zero (part (a.at + a.k) (j - a.k) a.«record».now)) p
+    c.loop-i.invariant ∙ ap (λ (j : ℕ). all_zero (part (a.at + a.k) (j - a.k) a.«record».now)) p

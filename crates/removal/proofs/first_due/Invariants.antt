@@ -1,5 +1,5 @@
 -- `removal::first_due` meets its contract: what is passed and the first that goes of the rest give the whole's. Assumes nothing.
-use Prim.Native.Nat.{◌+◌, ◌-◌, ◌≤◌}
+use Prim.Native.Nat.{◌+◌}
 use mathlib.Core.Path.{◌≡◌}
 use lib.ListN.{drop}
 use Rattle.table.specs.Tests.{count_of, recs_in}
@@ -7,7 +7,4 @@ use Rattle.removal.specs.Removals.{due_within, first_going}
 use Rattle.removal.proofs.first_due.Given as goal
 
 abbrev pub invariant-loop-j : goal.invariant-loop-j
-invariant-loop-j l = (l.n ≡ count_of l.node) × (l.j ≤ l.n) × (l.j + first_going (due_within l.bound l.clock l.grace) (drop l.j (recs_in l.node)) ≡ first_going (due_within l.bound l.clock l.grace) (recs_in l.node))
-
-abbrev pub decreases-loop-j : goal.decreases-loop-j
-decreases-loop-j l = l.n - l.j
+invariant-loop-j l = (l.n ≡ count_of l.node) × (l.j + first_going (due_within l.bound l.clock l.grace) (drop l.j (recs_in l.node)) ≡ first_going (due_within l.bound l.clock l.grace) (recs_in l.node))

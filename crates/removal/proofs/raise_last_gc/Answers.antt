@@ -24,5 +24,5 @@ returns c =
     let b : List ℕ = c.args.node.now in
     c.set_last_gc.ensures
     ∙ ap (λ (g : ℕ). encode_node (with_gc g (decode_node b)))
-    (raised b c.requires.0 c.args.j c.requires.1 c.read_u64-held.result c.read_u64-version.result c.larger-last_gc.result c.read_u64-held.ensures
-    (c.read_u64-version.ensures ∙ ap (λ (at : ℕ). nat_of (part (at + offset rec_widths 4) 8 b)) c.record_place.ensures) c.larger-last_gc.ensures)
+    (raised b c.requires.0 c.args.j c.requires.1 c.read_u64-held.result c.read_u64-version.result c.max.result c.read_u64-held.ensures
+    (c.read_u64-version.ensures ∙ ap (λ (at : ℕ). nat_of (part (at + offset rec_widths 4) 8 b)) c.record_place.ensures) c.max.ensures)

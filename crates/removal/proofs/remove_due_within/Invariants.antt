@@ -1,6 +1,6 @@
 -- `removal::remove_due_within` meets its contract: of what is in front of `j`, those that stay stand in the first places, and the rest gives the whole.
 -- Assumes nothing.
-use Prim.Native.Nat.{◌-◌, ◌≤◌}
+use Prim.Native.Nat.{◌≤◌}
 use mathlib.Core.Path.{◌≡◌}
 use Rattle.rules.specs.Layout.{decode_node}
 use Rattle.table.specs.Tests.{count_of}
@@ -10,7 +10,10 @@ use Rattle.removal.proofs.Removing.{done_from}
 use Rattle.removal.proofs.remove_due_within.Given as goal
 
 abbrev pub invariant-loop-j : goal.invariant-loop-j
-invariant-loop-j l = LaidNode l.node × (count_of l.node ≡ l.n) × (l.kept ≤ l.j) × (l.j ≤ l.n) × (done_from (due_within l.bound l.clock l.grace) l.kept l.j (decode_node l.node) ≡ removed (due_within l.bound l.clock l.grace) (decode_node l.initial.node))
-
-abbrev pub decreases-loop-j : goal.decreases-loop-j
-decreases-loop-j l = l.n - l.j
+invariant-loop-j l = record {
+  laid : LaidNode l.node;
+  many : count_of l.node ≡ l.n;
+  low : l.kept ≤ l.j;
+  within : l.j ≤ l.n;
+  left : done_from (due_within l.bound l.clock l.grace) l.kept l.j (decode_node l.node) ≡ removed (due_within l.bound l.clock l.grace) (decode_node l.initial.node);
+}

@@ -7,7 +7,6 @@ use mathlib.Core.List.{List}
 use native.Mathlib.Omega.{arith}
 use lib.ListN.{get_or, take, drop}
 use borrow.Author.Tests.{le-leb, lt-leb}
-use Rattle.fields.specs.Numbers.{AreBytes}
 use Rattle.fields.specs.Parts.{part}
 use Rattle.fields.specs.Blocks.{all_zero, all_blocks}
 use Rattle.fields.proofs.Numbers.{at-bytes}
@@ -33,15 +32,13 @@ returns-then-area-ne-AREA c =
 
 pub returns-then-n-gt-NODES : goal.returns-then-n-gt-NODES
 returns-then-n-gt-NODES c =
-    let bytes : AreBytes c.args.area.now = at-bytes c.args.area.now (λ i. (c.shared_slice_known-1.given i).fits) in
     let l : List ℕ = c.args.area.now in
-    table-stop l (bytes) 0 (lt-leb (nodes_of l) max_nodes (omega arith))
+    table-stop l (at-bytes c.args.area.now (λ i. (c.type_inv.area i).fits)) 0 (lt-leb (nodes_of l) max_nodes (omega arith))
 
 pub returns-then-numbers_rise : goal.returns-then-numbers_rise
 returns-then-numbers_rise c =
-    let bytes : AreBytes c.args.area.now = at-bytes c.args.area.now (λ i. (c.shared_slice_known-1.given i).fits) in
     let l : List ℕ = c.args.area.now in
-    table-pass l (bytes) _ c.if-area-ne-AREA.false (le-leb (nodes_of l) max_nodes (omega (arith, c.byte_at-n.ensures.0, c.if-n-gt-NODES.false)))
+    table-pass l (at-bytes c.args.area.now (λ i. (c.type_inv.area i).fits)) _ c.if-area-ne-AREA.false (le-leb (nodes_of l) max_nodes (omega (arith, c.byte_at-n.ensures.0, c.if-n-gt-NODES.false)))
     (nodes-test l _ _ c.byte_at-n.ensures.0 c.check_nodes.ensures ∙ c.if-check_nodes.true)
     (sym c.numbers_rise.ensures ∙ c.if-numbers_rise.true)
     (zeros-test l _ _ c.byte_at-n.ensures.0 c.if-n-gt-NODES.false
@@ -49,11 +46,9 @@ returns-then-numbers_rise c =
 
 pub returns-else-numbers_rise : goal.returns-else-numbers_rise
 returns-else-numbers_rise c =
-    let bytes : AreBytes c.args.area.now = at-bytes c.args.area.now (λ i. (c.shared_slice_known-1.given i).fits) in
-    table-stop c.args.area.now (bytes) 2 (sym c.numbers_rise.ensures ∙ c.if-numbers_rise.false)
+    table-stop c.args.area.now (at-bytes c.args.area.now (λ i. (c.type_inv.area i).fits)) 2 (sym c.numbers_rise.ensures ∙ c.if-numbers_rise.false)
 
 pub returns-else-check_nodes : goal.returns-else-check_nodes
 returns-else-check_nodes c =
-    let bytes : AreBytes c.args.area.now = at-bytes c.args.area.now (λ i. (c.shared_slice_known-1.given i).fits) in
     let l : List ℕ = c.args.area.now in
-    table-stop l (bytes) 1 (nodes-test l _ _ c.byte_at-n.ensures.0 c.check_nodes.ensures ∙ c.if-check_nodes.false)
+    table-stop l (at-bytes c.args.area.now (λ i. (c.type_inv.area i).fits)) 1 (nodes-test l _ _ c.byte_at-n.ensures.0 c.check_nodes.ensures ∙ c.if-check_nodes.false)

@@ -15,7 +15,6 @@ use Rattle.rules.specs.Sizes.{max_records}
 use Rattle.rules.specs.Layout.{rec_place, rec_width, node_width}
 use Rattle.table.specs.Tests.{rec_good, node_tests, node_good, count_of, max_in, recs_in}
 use Rattle.table.proofs.Nodes.{node-stop}
-use borrow.Author.Rules.{rules}
 use Rattle.table_check.proofs.check_node.Goals as goal
 
 -- the tests of a node's bytes, as the calls answer them
@@ -41,10 +40,6 @@ pub returns-then-n-gt-RECORDS : goal.returns-then-n-gt-RECORDS
 returns-then-n-gt-RECORDS c =
     let b : List ℕ = c.args.node.now in
     node-stop b 0 (lt-leb (count_of b) max_records (omega arith))
-
-pub keys_rise-requires : goal.keys_rise-requires
-keys_rise-requires c =
-    (search rules, omega arith, c.byte_at-n.ensures.0, sym c.check_records.ensures ∙ c.if-check_records.true)
 
 pub returns-then-all_differ : goal.returns-then-all_differ
 returns-then-all_differ c =

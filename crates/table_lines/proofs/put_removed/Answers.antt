@@ -13,7 +13,7 @@ use Rattle.rules.specs.Whole.{decode_memory, removed_place, tail_width}
 use Rattle.table.specs.Tests.{removed_in}
 use Rattle.table.proofs.Memories.{length-memory, memory-drop, removed-beat, removed-number, removed_at}
 use Rattle.listing_room.specs.Room.{last_two}
-use Rattle.listing_room.proofs.Lines.{Left, left-all, left-ends, left-long, left-none, left-turn, lines-done, lines_next}
+use Rattle.listing_room.proofs.Lines.{Left, left-ends, left-none, left-turn, lines-done, lines_next}
 use Rattle.table_listing.specs.TableListing.{removed_line}
 use Rattle.table_lines.proofs.put_removed.Goals as goal
 use Rattle.table_lines.proofs.put_removed.Invariants.{lines}
@@ -38,39 +38,6 @@ left : (b out₀ : Bytes) (at n i a x h : ℕ) (out : Bytes) → length b ≡ ta
 left b out₀ at n i a x h out e f g p q r =
     subst (λ (t : Bytes). Left at (flat removed_line (decode_memory b)) out₀ n t out) (next b i a x h e f g p q r)
 
-pub byte_at-count-requires : goal.byte_at-count-requires
-byte_at-count-requires c = omega (arith, c.requires.0)
-
-pub loop-i-init : goal.loop-i-init
-loop-i-init c = (omega arith, left-all _ _ _)
-
-pub removed_place-a-requires : goal.removed_place-a-requires
-removed_place-a-requires c = omega (arith, c.requires.1, c.byte_at-count.ensures.0, c.loop-i-test.true)
-
--- the places of a removed node lie in the tail
-inside : (a i : ℕ) (b : Bytes) → length b ≡ tail_width → removed_in b ≤ max_removed → i < removed_in b → a ≡ removed_place i → a + 16 ≤ length b
-inside a i b e f g p = omega arith
-
-pub overflow_add-a : goal.overflow_add-a
-overflow_add-a c =
-    let low : c.loop-i.i < removed_in c.args.tail.now = omega (arith, c.byte_at-count.ensures.0, c.loop-i-test.true) in
-    omega (arith, inside _ c.loop-i.i c.args.tail.now c.requires.0 c.requires.1 low c.removed_place-a.ensures, c.requires.0)
-
-pub read_u64-number-requires : goal.read_u64-number-requires
-read_u64-number-requires c =
-    let low : c.loop-i.i < removed_in c.args.tail.now = omega (arith, c.byte_at-count.ensures.0, c.loop-i-test.true) in
-    omega (arith, inside _ c.loop-i.i c.args.tail.now c.requires.0 c.requires.1 low c.removed_place-a.ensures)
-
-pub overflow_add-a-in-loop-i : goal.overflow_add-a-in-loop-i
-overflow_add-a-in-loop-i c =
-    let low : c.loop-i.i < removed_in c.args.tail.now = omega (arith, c.byte_at-count.ensures.0, c.loop-i-test.true) in
-    omega (arith, inside _ c.loop-i.i c.args.tail.now c.requires.0 c.requires.1 low c.removed_place-a.ensures, c.requires.0)
-
-pub read_u64-beat-requires : goal.read_u64-beat-requires
-read_u64-beat-requires c =
-    let low : c.loop-i.i < removed_in c.args.tail.now = omega (arith, c.byte_at-count.ensures.0, c.loop-i-test.true) in
-    omega (arith, inside _ c.loop-i.i c.args.tail.now c.requires.0 c.requires.1 low c.removed_place-a.ensures)
-
 pub put_last_two-n-requires : goal.put_last_two-n-requires
 put_last_two-n-requires c =
     let q = c.loop-i in
@@ -78,24 +45,17 @@ put_last_two-n-requires c =
     let low : q.i < removed_in b = omega (arith, c.byte_at-count.ensures.0, c.loop-i-test.true) in
     left-ends c.args.at (flat removed_line (decode_memory b)) c.args.out.now q.n q.out
     (line c.read_u64-number.result c.read_u64-beat.result) (lines b (q.i + 1))
-    (left b c.args.out.now c.args.at q.n q.i _ _ _ q.out c.requires.0 c.requires.1 low c.removed_place-a.ensures c.read_u64-number.ensures c.read_u64-beat.ensures q.invariant.1)
+    (left b c.args.out.now c.args.at q.n q.i _ _ _ q.out c.requires.0 c.requires.1 low c.removed_place-a.ensures c.read_u64-number.ensures c.read_u64-beat.ensures q.invariant)
     c.requires.2
 
 pub loop-i-preserved : goal.loop-i-preserved
 loop-i-preserved c =
     let q = c.loop-i in
     let b = c.args.tail.now in
-    let low : q.i < removed_in b = omega (arith, c.byte_at-count.ensures.0, c.loop-i-test.true) in (
-      omega (arith, c.loop-i-test.true),
-      left-turn c.args.at _ c.args.out.now q.n q.out _ _
-          (left b c.args.out.now c.args.at q.n q.i _ _ _ q.out c.requires.0 c.requires.1 low c.removed_place-a.ensures c.read_u64-number.ensures c.read_u64-beat.ensures q.invariant.1)
-          _ _ c.put_last_two-n.ensures,
-    )
-
-pub shape_of-out : goal.shape_of-out
-shape_of-out c =
-    let q = c.loop-i in
-    left-long _ _ _ q.n q.out _ q.invariant.1
+    let low : q.i < removed_in b = omega (arith, c.byte_at-count.ensures.0, c.loop-i-test.true) in
+    left-turn c.args.at _ c.args.out.now q.n q.out _ _
+    (left b c.args.out.now c.args.at q.n q.i _ _ _ q.out c.requires.0 c.requires.1 low c.removed_place-a.ensures c.read_u64-number.ensures c.read_u64-beat.ensures q.invariant)
+    _ _ c.put_last_two-n.ensures
 
 pub returns : goal.returns
 returns c =
@@ -103,4 +63,4 @@ returns c =
     let s = c.args in
     let b = s.tail.now in
     let done = lines-done removed_line (decode_memory b) q.i (omega (arith, length-memory b, c.byte_at-count.ensures.0, c.loop-i-test.false)) in
-    left-none s.at _ s.out.now q.n q.out (subst (λ (t : Bytes). Left s.at (flat removed_line (decode_memory b)) s.out.now q.n t q.out) done q.invariant.1)
+    left-none s.at _ s.out.now q.n q.out (subst (λ (t : Bytes). Left s.at (flat removed_line (decode_memory b)) s.out.now q.n t q.out) done q.invariant)

@@ -1,5 +1,5 @@
 -- `table_lines::put_removed` meets its contract: what stands and what is left are the whole. Assumes nothing.
-use Prim.Native.Nat.{ℕ, ◌-◌, ◌≤◌}
+use Prim.Native.Nat.{ℕ}
 use Rattle.fields.specs.Blocks.{flat}
 use Rattle.fields.specs.Numbers.{Bytes}
 use Rattle.rules.specs.Whole.{decode_memory}
@@ -13,7 +13,4 @@ abbrev pub lines : (tail : Bytes) (i : ℕ) → Bytes
 lines b i = flat removed_line (drop i (decode_memory b))
 
 abbrev pub invariant-loop-i : goal.invariant-loop-i
-invariant-loop-i l = (l.i ≤ l.count) × Left l.at (flat removed_line (decode_memory l.tail)) l.initial.out l.n (lines l.tail l.i) l.out
-
-abbrev pub decreases-loop-i : goal.decreases-loop-i
-decreases-loop-i l = l.count - l.i
+invariant-loop-i l = Left l.at (flat removed_line (decode_memory l.tail)) l.initial.out l.n (lines l.tail l.i) l.out

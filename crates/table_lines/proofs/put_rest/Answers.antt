@@ -6,37 +6,10 @@ use Rattle.rules.specs.Listing.{ascii}
 use Rattle.rules.specs.Layout.{decode_rec}
 use Rattle.listing_text.specs.Texts.{numbered}
 use Rattle.listing_room.specs.Room.{Ends, last_number, status_word}
-use Rattle.listing_room.proofs.Room.{Put, ends-first, ends-three, ends-two, three}
+use Rattle.listing_room.proofs.Room.{Put, three}
 use Rattle.table_listing.specs.TableListing.{rest_text}
 use Rattle.table_lines.proofs.Pieces.{rest-is}
 use Rattle.table_lines.proofs.put_rest.Goals as goal
-
-pub put_numbered-m-requires : goal.put_numbered-m-requires
-put_numbered-m-requires c =
-    let version : Bytes = numbered (ascii " version=") c.read_record-held.result.version in
-    let word : Bytes = status_word c.read_record-held.result.status in
-    let start : Bytes = last_number (ascii " start=") c.read_record-held.result.start in
-    let rest : version ++ (word ++ start) ≡ rest_text (decode_rec c.args.«record».now) = rest-is c.args.«record».now _ c.read_record-held.ensures in
-    let ends : Ends c.args.at (version ++ (word ++ start)) = subst (Ends c.args.at) (sym (rest)) c.requires.3 in
-    ends-first c.args.at (version) (word ++ start) (ends)
-
-pub put_status-n-requires : goal.put_status-n-requires
-put_status-n-requires c =
-    let version : Bytes = numbered (ascii " version=") c.read_record-held.result.version in
-    let word : Bytes = status_word c.read_record-held.result.status in
-    let start : Bytes = last_number (ascii " start=") c.read_record-held.result.start in
-    let rest : version ++ (word ++ start) ≡ rest_text (decode_rec c.args.«record».now) = rest-is c.args.«record».now _ c.read_record-held.ensures in
-    let ends : Ends c.args.at (version ++ (word ++ start)) = subst (Ends c.args.at) (sym (rest)) c.requires.3 in
-    ends-two c.args.at (version) (word) (start) c.args.out.now _ _ (ends) c.put_numbered-m.ensures
-
-pub put_last-requires : goal.put_last-requires
-put_last-requires c =
-    let version : Bytes = numbered (ascii " version=") c.read_record-held.result.version in
-    let word : Bytes = status_word c.read_record-held.result.status in
-    let start : Bytes = last_number (ascii " start=") c.read_record-held.result.start in
-    let rest : version ++ (word ++ start) ≡ rest_text (decode_rec c.args.«record».now) = rest-is c.args.«record».now _ c.read_record-held.ensures in
-    let ends : Ends c.args.at (version ++ (word ++ start)) = subst (Ends c.args.at) (sym (rest)) c.requires.3 in
-    ends-three c.args.at (version) (word) (start) c.args.out.now _ _ (ends) c.put_numbered-m.ensures _ _ c.put_status-n.ensures
 
 pub returns : goal.returns
 returns c =

@@ -9,7 +9,7 @@ use lib.ListN.{length, replicate, length-replicate, take}
 use lib.Seq.{length-take-le}
 use Rattle.std.proofs.Common.{OnOk, subst}
 use Rattle.std.specs.Io.KnownBytes.{Appends}
-use Rattle.rules.specs.declared.Written.TheVariants.{Bytes}
+use Rattle.std.specs.Prelude.{Ok}
 use Rattle.rules.proofs.Told.{same-written}
 use Rattle.table_listing.specs.TableListing.{list_table, longest_listing, table_listing}
 use Rattle.table_show.proofs.Shown.{shown-fits, shown-within}
@@ -23,25 +23,25 @@ buffer = replicate longest_listing 0
 room : longest_listing ≤ length buffer
 room = le_of_eq (sym (length-replicate {A = ℕ} longest_listing 0))
 
-within : (l left : List ℕ) (k : ℕ) → length left ≡ length buffer → (list_table l buffer).answer ≡ Bytes k → k ≤ length left
+within : (l left : List ℕ) (k : ℕ) → length left ≡ length buffer → (list_table l buffer).answer ≡ Ok k → k ≤ length left
 within l left k e f = omega (arith, shown-within l buffer room k f)
 
 pub slice_bounds-output-end : goal.slice_bounds-output-end
 slice_bounds-output-end g c =
     let call = c.list_table-listed in
-    within _ call.new.out _ call.auto.out (sym (same-written _ _ call.ensures.0) ∙ c.in-Bytes.is)
+    within _ call.new.out _ call.auto.out (sym (same-written _ _ call.ensures.0) ∙ c.in-Ok.is)
 
 pub slice_bounds-put-end : goal.slice_bounds-put-end
 slice_bounds-put-end g c =
     let call = c.list_table-listed in
-    sym (length-take-le _ _ (within _ call.new.out _ call.auto.out (sym (same-written _ _ call.ensures.0) ∙ c.in-Bytes.is)))
+    sym (length-take-le _ _ (within _ call.new.out _ call.auto.out (sym (same-written _ _ call.ensures.0) ∙ c.in-Ok.is)))
 
 pub unreachable-requires : goal.unreachable-requires
 unreachable-requires g c =
-    absurd (shown-fits _ buffer room _ (sym (same-written _ _ c.list_table-listed.ensures.0) ∙ c.in-Refused.is))
+    absurd (shown-fits _ buffer room _ (sym (same-written _ _ c.list_table-listed.ensures.0) ∙ c.in-Err.is))
 
 pub returns : goal.returns
 returns g c =
     let call = c.list_table-listed in
-    let same = ap (take c.in-Bytes.n) call.ensures.1 ∙ shown-front (table_listing c.args.table.now) buffer _ (sym (same-written _ _ call.ensures.0) ∙ c.in-Bytes.is) in
+    let same = ap (take c.in-Ok.n) call.ensures.1 ∙ shown-front (table_listing c.args.table.now) buffer _ (sym (same-written _ _ call.ensures.0) ∙ c.in-Ok.is) in
     subst (λ (x : List ℕ). OnOk c.put.result (Appends (g.W.Write.contents c.args.out.now) (g.W.Write.contents c.put.new.out) x)) same c.put.ensures

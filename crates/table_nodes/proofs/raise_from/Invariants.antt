@@ -6,7 +6,4 @@ use Rattle.table_nodes.proofs.Moves.{up_from}
 use Rattle.table_nodes.proofs.raise_from.Given as goal
 
 abbrev pub invariant-loop-k : goal.invariant-loop-k
-invariant-loop-k l = (l.i ≤ l.k) × (l.k ≤ l.n) × (length l.table ≡ length l.initial.table) × (l.table ≡ up_from l.n l.k l.initial.table)
-
-abbrev pub decreases-loop-k : goal.decreases-loop-k
-decreases-loop-k l = l.k
+invariant-loop-k l = (l.i ≤ l.k) × (length l.table ≡ length l.initial.table) × (l.table ≡ up_from l.n l.k l.initial.table)

@@ -6,7 +6,6 @@ use native.Mathlib.Omega.{arith}
 use lib.ListN.{length, drop}
 use Rattle.fields.specs.Numbers.{nat_of}
 use Rattle.fields.specs.Parts.{part}
-use Rattle.rules.specs.Table.{Table}
 use Rattle.rules.specs.Layout.{node_place, decode, table_width}
 use Rattle.table.specs.Tests.{nodes_of}
 use Rattle.table.proofs.Tables.{length-decode}
@@ -17,50 +16,38 @@ use Rattle.table_read.proofs.Found.{start, end, step_same, step_less, step-more,
 use Rattle.table_read.proofs.find_node.Goals as goal
 
 -- node i, as the bytes tell its number
-module _ (number i x : ℕ) (l : List ℕ) (e : length l ≡ table_width) (h : i < nodes_of l) (g : nodes_of l ≤ 8) (r : x ≡ nat_of (part (node_place i) 8 l)) where
+module _ (number i x p : ℕ) (l : List ℕ) (e : length l ≡ table_width) (h : i < nodes_of l) (g : nodes_of l ≤ 8) (at : p ≡ node_place i) (r : x ≡ nat_of (part p 8 l)) (all : further i (find_node number (drop i (decode l))) ≡ find_node number (decode l)) where
   is : x ≡ (node_at i l).number
-  is = r ∙ sym (number_at i l e (omega arith))
+  is = r ∙ ap (λ (k : ℕ). nat_of (part k 8 l)) at ∙ sym (number_at i l e (omega arith))
 
-  turn-same : number ≡ x → further i (find_node number (drop i (decode l))) ≡ At i
-  turn-same q = step_same (to_node number) (decode l) i (node_at i l) (decode-drop i l h) (number_same number (node_at i l).number (q ∙ is))
+  turn-same : number ≡ x → At i ≡ find_node number (decode l)
+  turn-same q = sym (step_same (to_node number) (decode l) i (node_at i l) (decode-drop i l h) (number_same number (node_at i l).number (q ∙ is))) ∙ all
 
-  turn-less : number < x → further i (find_node number (drop i (decode l))) ≡ Free i
-  turn-less q = step_less (to_node number) (decode l) i (node_at i l) (decode-drop i l h) (number-less number (node_at i l).number (omega (arith, is)))
+  turn-less : number < x → Free i ≡ find_node number (decode l)
+  turn-less q = sym (step_less (to_node number) (decode l) i (node_at i l) (decode-drop i l h) (number-less number (node_at i l).number (omega (arith, is)))) ∙ all
 
-  turn_more : x < number → further i (find_node number (drop i (decode l))) ≡ further (i + 1) (find_node number (drop (i + 1) (decode l)))
-  turn_more q = step-more (to_node number) (decode l) i (node_at i l) (decode-drop i l h) (number_more number (node_at i l).number (omega (arith, is)))
+  turn_more : x < number → further (i + 1) (find_node number (drop (i + 1) (decode l))) ≡ find_node number (decode l)
+  turn_more q = sym (step-more (to_node number) (decode l) i (node_at i l) (decode-drop i l h) (number_more number (node_at i l).number (omega (arith, is)))) ∙ all
 
 pub loop-i-init : goal.loop-i-init
 loop-i-init c =
-    let a = c.args in
-    (omega arith, start (to_node a.number) (decode a.table.now))
+    start (to_node c.args.number) (decode c.args.table.now)
 
 pub returns-then-number-x : goal.returns-then-number-x
 returns-then-number-x c =
-    let read : c.read_u64-x.result ≡ nat_of (part (node_place c.loop-i.i) 8 c.args.table.now) = c.read_u64-x.ensures ∙ ap (λ (k : ℕ). nat_of (part k 8 c.args.table.now)) c.node_place.ensures in
-    let a = c.args in
-    sym (turn-same a.number c.loop-i.i c.read_u64-x.result a.table.now (omega arith) (omega arith) (omega arith)
-    (read) c.if-number-x.true) ∙ c.loop-i.invariant.1
+    turn-same c.args.number c.loop-i.i c.read_u64-x.result _ c.args.table.now (omega arith) (omega arith) (omega arith) c.node_place.ensures c.read_u64-x.ensures c.loop-i.invariant c.if-number-x.true
 
 pub returns-then-number-x-2 : goal.returns-then-number-x-2
 returns-then-number-x-2 c =
-    let read : c.read_u64-x.result ≡ nat_of (part (node_place c.loop-i.i) 8 c.args.table.now) = c.read_u64-x.ensures ∙ ap (λ (k : ℕ). nat_of (part k 8 c.args.table.now)) c.node_place.ensures in
-    let a = c.args in
-    sym (turn-less a.number c.loop-i.i c.read_u64-x.result a.table.now (omega arith) (omega arith) (omega arith)
-    (read) c.if-number-x-2.true) ∙ c.loop-i.invariant.1
+    turn-less c.args.number c.loop-i.i c.read_u64-x.result _ c.args.table.now (omega arith) (omega arith) (omega arith) c.node_place.ensures c.read_u64-x.ensures c.loop-i.invariant c.if-number-x-2.true
 
 pub loop-i-preserved : goal.loop-i-preserved
 loop-i-preserved c =
-    let read : c.read_u64-x.result ≡ nat_of (part (node_place c.loop-i.i) 8 c.args.table.now) = c.read_u64-x.ensures ∙ ap (λ (k : ℕ). nat_of (part k 8 c.args.table.now)) c.node_place.ensures in
-    let a = c.args in
-    let far : c.read_u64-x.result < a.number = omega (arith, c.if-number-x.false) in (
-      omega arith,
-      sym (turn_more a.number c.loop-i.i c.read_u64-x.result a.table.now (omega arith) (omega arith) (omega arith)
-          (read) far) ∙ c.loop-i.invariant.1,
-    )
+    turn_more c.args.number c.loop-i.i c.read_u64-x.result _ c.args.table.now (omega arith) (omega arith) (omega arith) c.node_place.ensures c.read_u64-x.ensures c.loop-i.invariant (omega arith)
 
 pub returns : goal.returns
 returns c =
     let a = c.args in
-    let t : Table = decode a.table.now in
-    sym (end (to_node a.number) t c.loop-i.i (rw length-decode (omega arith))) ∙ c.loop-i.invariant.1
+    let i : ℕ = c.loop-i.i in
+    let e : c.byte_at-n.result ≡ i = omega arith in
+    ap Free e ∙ sym (end (to_node a.number) (decode a.table.now) i (rw length-decode (omega arith))) ∙ c.loop-i.invariant

@@ -7,7 +7,7 @@ use Rattle.rules.specs.Layout.{node_width, decode}
 use Rattle.table.proofs.Tables.{valid-long, valid-few}
 use Rattle.table_read.specs.Find.{find_node, span_of}
 use Rattle.table_read.specs.declared.Place.TheVariants.{At}
-use Rattle.table_read.specs.declared.Span.TheVariants.{Held}
+use Rattle.std.specs.Prelude.{Some}
 use Rattle.table_read.proofs.Searched.{node_in}
 use Rattle.table_read.proofs.node_span.Goals as goal
 
@@ -32,7 +32,7 @@ overflow_add-result c =
 pub returns-in-At : goal.returns-in-At
 returns-in-At c =
     let found : find_node c.args.number (decode c.args.table.now) ≡ At c.in-At.i = sym c.find_node.ensures ∙ c.in-At.is in
-    ap (λ (k : ℕ). Held k (k + node_width)) c.node_place-start.ensures ∙ ap span_of (sym (found))
+    ap (λ (k : ℕ). (Some (record { start = k; end = (k + node_width) }))) c.node_place-start.ensures ∙ ap span_of (sym (found))
 
 pub returns-in-Free : goal.returns-in-Free
 returns-in-Free c =

@@ -6,10 +6,12 @@ use native.Mathlib.Omega.{arith}
 use lib.ListN.{length, take}
 use lib.Seq.{take_all}
 use Rattle.fields.specs.Order.{order_of}
+use Rattle.std.specs.declared.cmp.Ordering.{Ordering}
 use Rattle.rules.specs.Sizes.{max_key}
-use Rattle.rules.specs.Layout.{decode_rec}
+use Rattle.rules.specs.Layout.{decode_rec, rec_width}
+use Rattle.table.specs.Fits.{LaidNode}
 use Rattle.table.specs.Tests.{key_length, count_of, recs_in}
-use Rattle.table.proofs.Places.{length-recs, rec_at}
+use Rattle.table.proofs.Places.{length-recs, rec_at, rec_bytes}
 use Rattle.table.proofs.Laid.{laid-key, rec-long}
 use Rattle.table_read.specs.Find.{to_key, find_key}
 use Rattle.table_read.proofs.Found.{start}
@@ -19,6 +21,14 @@ use Rattle.table_read.proofs.search_key.Goals as goal
 
 halved : (a b : ℕ) → a < b → (a ≤ (a + b) / 2) × ((a + b) / 2 < b)
 halved a b h = (omega arith, omega arith)
+
+-- x are the bytes of record j, and key is its own
+module _ (b k : List ℕ) (j : ℕ) {x : List ℕ} (p : x ≡ rec_bytes j b) where
+  asked : LaidNode b → j < count_of b → (length x ≡ rec_width) × (key_length x ≤ max_key)
+  asked laid h = (ap length p ∙ rec-long b laid j h, subst (λ (y : List ℕ). key_length y ≤ max_key) (sym p) (laid-key b laid j h))
+
+  stands : {key : List ℕ} {o : Ordering} → o ≡ order_of k key → key ≡ (decode_rec x).kv.key → order_of k (rec_at j b).kv.key ≡ o
+  stands e q = sym (e ∙ ap (order_of k) (q ∙ ap (λ (y : List ℕ). (decode_rec y).kv.key) p))
 
 pub loop-low-init : goal.loop-low-init
 loop-low-init c =
@@ -32,65 +42,54 @@ overflow_add-j c =
 
 pub record_of-requires : goal.record_of-requires
 record_of-requires c =
-    let mid : ℕ = (c.loop-low.low + c.loop-low.high) / 2 in
-    let within : mid < count_of c.args.node.now = omega (arith, (halved c.loop-low.low c.loop-low.high c.loop-low-test.true).1) in
-    (search rules, omega (arith, within))
+    let t = halved c.loop-low.low c.loop-low.high c.loop-low-test.true in
+    (search rules, omega arith)
 
 pub key_of-requires : goal.key_of-requires
 key_of-requires c =
-    let mid : ℕ = (c.loop-low.low + c.loop-low.high) / 2 in
-    let within : mid < count_of c.args.node.now = omega (arith, (halved c.loop-low.low c.loop-low.high c.loop-low-test.true).1) in
-    let b : List ℕ = c.args.node.now in
-    let j : ℕ = mid in (
-      ap length c.record_of.ensures ∙ rec-long b c.requires.0 j (within),
-      subst (λ (x : List ℕ). key_length x ≤ max_key) (sym c.record_of.ensures) (laid-key b c.requires.0 j (within)),
-    )
+    let t = halved c.loop-low.low c.loop-low.high c.loop-low-test.true in
+    asked c.args.node.now c.args.key.now _ c.record_of.ensures c.requires.0 (omega arith)
 
-pub returns-in-Same : goal.returns-in-Same
-returns-in-Same c =
-    let mid : ℕ = (c.loop-low.low + c.loop-low.high) / 2 in
-    let within : mid < count_of c.args.node.now = omega (arith, (halved c.loop-low.low c.loop-low.high c.loop-low-test.true).1) in
-    let is : let a = c.args in order_of a.key.now (rec_at (mid) a.node.now).kv.key ≡ c.compare.result = let a = c.args in
-    sym (c.compare.ensures ∙ ap (order_of a.key.now) (c.key_of.ensures ∙ ap (λ (x : List ℕ). (decode_rec x).kv.key) c.record_of.ensures)) in
-    half-same c.args.key.now c.args.node.now c.requires.1 (mid) (within) (is ∙ c.in-Same.is)
+pub returns-in-Equal : goal.returns-in-Equal
+returns-in-Equal c =
+    let a = c.args in
+    let t = halved c.loop-low.low c.loop-low.high c.loop-low-test.true in
+    half-same a.key.now a.node.now c.requires.1 _ (omega arith) (stands a.node.now a.key.now _ c.record_of.ensures c.compare.ensures c.key_of.ensures ∙ c.in-Equal.is)
 
 pub loop-low-smaller-in-Less : goal.loop-low-smaller-in-Less
 loop-low-smaller-in-Less c =
-    let mid : ℕ = (c.loop-low.low + c.loop-low.high) / 2 in
-    let halves : (c.loop-low.low ≤ mid) × (mid < c.loop-low.high) = halved c.loop-low.low c.loop-low.high c.loop-low-test.true in
-    omega (arith, (halves).1)
+    let t = halved c.loop-low.low c.loop-low.high c.loop-low-test.true in
+    omega arith
 
 pub loop-low-preserved-in-Less : goal.loop-low-preserved-in-Less
 loop-low-preserved-in-Less c =
-    let mid : ℕ = (c.loop-low.low + c.loop-low.high) / 2 in
-    let halves : (c.loop-low.low ≤ mid) × (mid < c.loop-low.high) = halved c.loop-low.low c.loop-low.high c.loop-low-test.true in
-    let within : mid < count_of c.args.node.now = omega (arith, (halved c.loop-low.low c.loop-low.high c.loop-low-test.true).1) in
-    let is : let a = c.args in order_of a.key.now (rec_at (mid) a.node.now).kv.key ≡ c.compare.result = let a = c.args in
-    sym (c.compare.ensures ∙ ap (order_of a.key.now) (c.key_of.ensures ∙ ap (λ (x : List ℕ). (decode_rec x).kv.key) c.record_of.ensures)) in
-    let t = halves in
-    (t.0, omega (arith, t.1), c.loop-low.invariant.2, half-less c.args.key.now c.args.node.now c.requires.1 (mid) (within) (is ∙ c.in-Less.is))
+    let a = c.args in
+    let t = halved c.loop-low.low c.loop-low.high c.loop-low-test.true in (
+      t.0,
+      omega arith,
+      c.loop-low.invariant.2,
+      half-less a.key.now a.node.now c.requires.1 _ (omega arith) (stands a.node.now a.key.now _ c.record_of.ensures c.compare.ensures c.key_of.ensures ∙ c.in-Less.is),
+    )
 
 pub overflow_add-low : goal.overflow_add-low
 overflow_add-low c =
-    let mid : ℕ = (c.loop-low.low + c.loop-low.high) / 2 in
-    let halves : (c.loop-low.low ≤ mid) × (mid < c.loop-low.high) = halved c.loop-low.low c.loop-low.high c.loop-low-test.true in
-    omega (arith, (halves).1, c.byte_at-high.ensures.1)
+    let t = halved c.loop-low.low c.loop-low.high c.loop-low-test.true in
+    omega (arith, c.byte_at-high.ensures.1)
 
 pub loop-low-smaller : goal.loop-low-smaller
 loop-low-smaller c =
-    let mid : ℕ = (c.loop-low.low + c.loop-low.high) / 2 in
-    let halves : (c.loop-low.low ≤ mid) × (mid < c.loop-low.high) = halved c.loop-low.low c.loop-low.high c.loop-low-test.true in
-    omega (arith, halves)
+    let t = halved c.loop-low.low c.loop-low.high c.loop-low-test.true in
+    omega arith
 
 pub loop-low-preserved : goal.loop-low-preserved
 loop-low-preserved c =
-    let mid : ℕ = (c.loop-low.low + c.loop-low.high) / 2 in
-    let halves : (c.loop-low.low ≤ mid) × (mid < c.loop-low.high) = halved c.loop-low.low c.loop-low.high c.loop-low-test.true in
-    let within : mid < count_of c.args.node.now = omega (arith, (halved c.loop-low.low c.loop-low.high c.loop-low-test.true).1) in
-    let is : let a = c.args in order_of a.key.now (rec_at (mid) a.node.now).kv.key ≡ c.compare.result = let a = c.args in
-    sym (c.compare.ensures ∙ ap (order_of a.key.now) (c.key_of.ensures ∙ ap (λ (x : List ℕ). (decode_rec x).kv.key) c.record_of.ensures)) in
-    let t = halves in
-    (omega (arith, t.1), c.loop-low.invariant.1, half-more c.args.key.now c.args.node.now c.requires.1 (mid) (within) (is ∙ c.in-More.is), c.loop-low.invariant.3)
+    let a = c.args in
+    let t = halved c.loop-low.low c.loop-low.high c.loop-low-test.true in (
+      omega arith,
+      c.loop-low.invariant.1,
+      half-more a.key.now a.node.now c.requires.1 _ (omega arith) (stands a.node.now a.key.now _ c.record_of.ensures c.compare.ensures c.key_of.ensures ∙ c.in-Greater.is),
+      c.loop-low.invariant.3,
+    )
 
 pub returns : goal.returns
 returns c =

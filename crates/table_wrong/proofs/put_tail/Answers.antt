@@ -3,24 +3,8 @@ use mathlib.Core.Path.{◌∙◌, sym, subst}
 use Rattle.fields.specs.Numbers.{Bytes}
 use Rattle.listing_room.proofs.Room.{Put}
 use Rattle.table_listing.specs.TableListing.{refused_line}
-use Rattle.table_wrong.proofs.Wrong.{no_mode, no-profile, some-mode, some-profile}
+use Rattle.table_wrong.proofs.Wrong.{some-mode, some-profile}
 use Rattle.table_wrong.proofs.put_tail.Goals as goal
-
-pub returns-then-byte-m : goal.returns-then-byte-m
-returns-then-byte-m c =
-    let a = c.args in
-    let call = c.put_wrong in
-    subst (λ (t : Bytes). Put 0 t a.out.now call.new.out call.result)
-    (no_mode a.tail.now _ _ _ c.byte_at-m.ensures.0 c.of_byte-mode.ensures c.byte.ensures c.if-byte-m.true) call.ensures
-
-pub returns-then-byte-p : goal.returns-then-byte-p
-returns-then-byte-p c =
-    let a = c.args in
-    let call = c.put_wrong-then-byte-p in
-    let mode = some-mode a.tail.now _ _ _ c.byte_at-m.ensures.0 c.of_byte-mode.ensures c.byte.ensures c.if-byte-m.false in
-    subst (λ (t : Bytes). Put 0 t a.out.now call.new.out call.result)
-    (no-profile a.tail.now _ _ _ c.byte_at-p.ensures.0 c.of_byte-profile.ensures c.byte-2.ensures c.if-byte-p.true ∙ sym mode)
-    call.ensures
 
 pub returns : goal.returns
 unfolding refused_line

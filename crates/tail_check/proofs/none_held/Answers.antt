@@ -17,7 +17,7 @@ all_of ns n x = rw sub-zero refl
 
 pub loop-i-init : goal.loop-i-init
 loop-i-init c =
-    (omega arith, refl)
+    refl
 
 pub returns-then-stands_from : goal.returns-then-stands_from
 returns-then-stands_from c =
@@ -25,19 +25,17 @@ returns-then-stands_from c =
     let l : List ℕ = a.area.now in
     one-held l (omega arith) (omega arith) (take a.n a.ns.now) c.loop-i.i c.read_u64-x.result (omega arith)
     (c.read_u64-x.ensures ∙ ap (λ (k : ℕ). nat_of (part k 8 l)) c.node_place.ensures)
-    (c.stands_from.ensures ∙ all_of a.ns.now a.n _) c.loop-i.invariant.1 c.if-stands_from.true
+    (c.stands_from.ensures ∙ all_of a.ns.now a.n _) c.loop-i.invariant c.if-stands_from.true
 
 pub loop-i-preserved : goal.loop-i-preserved
 loop-i-preserved c =
     let a = c.args in
-    let l : List ℕ = a.area.now in (
-      omega arith,
-      not-held l (omega arith) (omega arith) (take a.n a.ns.now) c.loop-i.i c.read_u64-x.result (omega arith)
-          (c.read_u64-x.ensures ∙ ap (λ (k : ℕ). nat_of (part k 8 l)) c.node_place.ensures)
-          (c.stands_from.ensures ∙ all_of a.ns.now a.n _) c.loop-i.invariant.1 c.if-stands_from.false,
-    )
+    let l : List ℕ = a.area.now in
+    not-held l (omega arith) (omega arith) (take a.n a.ns.now) c.loop-i.i c.read_u64-x.result (omega arith)
+    (c.read_u64-x.ensures ∙ ap (λ (k : ℕ). nat_of (part k 8 l)) c.node_place.ensures)
+    (c.stands_from.ensures ∙ all_of a.ns.now a.n _) c.loop-i.invariant c.if-stands_from.false
 
 pub returns : goal.returns
 returns c =
     let a = c.args in
-    sym (no_more a.area.now (omega arith) (omega arith) (take a.n a.ns.now) c.loop-i.i (omega arith)) ∙ c.loop-i.invariant.1
+    sym (no_more a.area.now (omega arith) (omega arith) (take a.n a.ns.now) c.loop-i.i (omega arith)) ∙ c.loop-i.invariant

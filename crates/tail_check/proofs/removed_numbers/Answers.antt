@@ -41,18 +41,17 @@ over b ns i n t p q e =
 
 pub loop-i-init : goal.loop-i-init
 loop-i-init c =
-    (omega arith, refl, refl)
+    (refl, refl)
 
 pub loop-i-preserved : goal.loop-i-preserved
 loop-i-preserved c =
     let a = c.args in
     let read = c.read_u64.ensures ∙ ap (λ (k : ℕ). nat_of (part (k + offset removed_widths 0) 8 a.tail.now)) c.removed_place.ensures in (
-      omega arith,
-      length-set c.loop-i.ns c.loop-i.i c.read_u64.result ∙ c.loop-i.invariant.1,
-      turn a.tail.now c.loop-i.ns c.loop-i.i c.read_u64.result _ (omega arith) (omega arith) (omega arith) c.loop-i.invariant.1 read c.loop-i.invariant.2,
+      length-set c.loop-i.ns c.loop-i.i c.read_u64.result ∙ c.loop-i.invariant.0,
+      turn a.tail.now c.loop-i.ns c.loop-i.i c.read_u64.result _ (omega arith) (omega arith) (omega arith) c.loop-i.invariant.0 read c.loop-i.invariant.1,
     )
 
 pub returns : goal.returns
 returns c =
     let a = c.args in
-    (c.loop-i.invariant.1, over a.tail.now c.loop-i.ns c.loop-i.i a.n _ (omega arith) (omega arith) c.loop-i.invariant.2)
+    (c.loop-i.invariant.0, over a.tail.now c.loop-i.ns c.loop-i.i a.n _ (omega arith) (omega arith) c.loop-i.invariant.1)

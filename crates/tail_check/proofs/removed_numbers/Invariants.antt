@@ -1,5 +1,4 @@
 -- `tail_check::removed_numbers` meets its contract: the numbers that are stored and those that are left are all. Assumes nothing.
-use Prim.Native.Nat.{◌-◌, ◌≤◌}
 use mathlib.Core.Path.{◌≡◌}
 use mathlib.Core.List.{◌++◌}
 use lib.ListN.{length, take, drop}
@@ -9,7 +8,4 @@ use Rattle.rules.specs.Whole.{decode_memory}
 use Rattle.tail_check.proofs.removed_numbers.Given as goal
 
 abbrev pub invariant-loop-i : goal.invariant-loop-i
-invariant-loop-i l = (l.i ≤ l.n) × (length l.ns ≡ max_removed) × (take l.i l.ns ++ removed_numbers (drop l.i (decode_memory l.tail)) ≡ removed_numbers (decode_memory l.tail))
-
-abbrev pub decreases-loop-i : goal.decreases-loop-i
-decreases-loop-i l = l.n - l.i
+invariant-loop-i l = (length l.ns ≡ max_removed) × (take l.i l.ns ++ removed_numbers (drop l.i (decode_memory l.tail)) ≡ removed_numbers (decode_memory l.tail))

@@ -2,8 +2,9 @@
 use mathlib.Core.Path.{ap, ◌∙◌}
 use Rattle.rules.specs.Answers.{computed_told}
 use Rattle.rules.specs.Given.{given}
-use Rattle.rules.specs.declared.Computed.{Computed}
-use Rattle.rules.specs.declared.Computed.TheVariants.{Refused}
+use Rattle.std.specs.Prelude.{Err, Result}
+use Rattle.rules.specs.declared.Refusal.{Refusal}
+use Rattle.rules.specs.declared.Sent.{Sent}
 use Rattle.rules.specs.declared.Refusal.TheVariants.{BadTable}
 use Rattle.plan.specs.Plan.{compute_plan}
 use Rattle.answers.specs.Shown.{computed_shown}
@@ -21,5 +22,5 @@ compute_plan_good-requires c =
 pub returns : goal.returns
 returns c =
     let a = c.args in
-    let g = good-fill (λ t. compute_plan a.edition a.excluded.now a.nodes.now a.counts.now a.mtu a.place a.digest.now t a.datagram.now) a.table.now c.requires (given (Refused BadTable) a.datagram.now) _ _ c.compute_plan_good.ensures in
-    (c.computed.ensures ∙ ap (λ (a : Computed). computed_shown (computed_told a)) g.0, g.1)
+    let g = good-fill (λ t. compute_plan a.edition a.excluded.now a.nodes.now a.counts.now a.mtu a.place a.digest.now t a.datagram.now) a.table.now c.requires (given (Err BadTable) a.datagram.now) _ _ c.compute_plan_good.ensures in
+    (c.computed.ensures ∙ ap (λ (a : (Result Sent Refusal)). computed_shown (computed_told a)) g.0, g.1)

@@ -1,11 +1,12 @@
 -- `library::good::kev_good_delete_after_ttl` meets its contract: the call by the number's party on a good table, and what its answer tells. Assumes nothing.
 use mathlib.Core.Path.{ap, ◌∙◌}
 use Rattle.rules.specs.Answers.{answer_told}
-use Rattle.rules.specs.declared.Answer.{Answer}
+use Rattle.std.specs.Prelude.{Result}
+use Rattle.rules.specs.declared.Refusal.{Refusal}
 use Rattle.answers.specs.Shown.{number_shown}
 use Rattle.library.proofs.good.kev_good_delete_after_ttl.Goals as goal
 
 pub returns : goal.returns
 returns c =
     let g = rw c.of_number.ensures at c.delete_after_ttl_known.ensures in
-    (c.number.ensures ∙ ap (λ (a : Answer). number_shown (answer_told a)) g.0, g.1)
+    (c.number.ensures ∙ ap (λ (a : (Result (Unit {0}) Refusal)). number_shown (answer_told a)) g.0, g.1)

@@ -2,8 +2,8 @@
 use mathlib.Core.Path.{ap, ◌∙◌}
 use Rattle.rules.specs.Answers.{answer_told}
 use Rattle.rules.specs.Local.{local_beat}
-use Rattle.rules.specs.declared.Answer.{Answer}
-use Rattle.rules.specs.declared.Answer.TheVariants.{Refused}
+use Rattle.std.specs.Prelude.{Err, Result}
+use Rattle.rules.specs.declared.Refusal.{Refusal}
 use Rattle.rules.specs.declared.Refusal.TheVariants.{BadTable}
 use Rattle.table_check.proofs.Entry.{good-table}
 use Rattle.answers.specs.Shown.{number_shown}
@@ -25,5 +25,5 @@ beat_good-requires c =
 pub returns : goal.returns
 returns c =
     let w = c.beat_good in
-    let g = good-table (Refused BadTable) (local_beat c.args.number) c.args.table.now c.requires w.result w.new.table w.ensures in
-    (c.number.ensures ∙ ap (λ (a : Answer). number_shown (answer_told a)) g.0, g.1)
+    let g = good-table (Err BadTable) (local_beat c.args.number) c.args.table.now c.requires w.result w.new.table w.ensures in
+    (c.number.ensures ∙ ap (λ (a : (Result (Unit {0}) Refusal)). number_shown (answer_told a)) g.0, g.1)

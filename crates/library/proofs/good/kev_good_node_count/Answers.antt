@@ -1,7 +1,8 @@
 -- `library::good::kev_good_node_count` meets its contract: the call on a good table, and what its answer tells. Assumes nothing.
 use mathlib.Core.Path.{ap, ◌∙◌}
 use Rattle.inspect.specs.Told.{count_told}
-use Rattle.inspect.specs.declared.Count.{Count}
+use Rattle.std.specs.Prelude.{Result, ℕ}
+use Rattle.rules.specs.declared.Refusal.{Refusal}
 use Rattle.answers.specs.Shown.{count_shown}
 use Rattle.library.proofs.Accepted.{good-area, good-long, good-read}
 use Rattle.library.proofs.good.kev_good_node_count.Goals as goal
@@ -16,4 +17,4 @@ node_count_good-requires c =
 
 pub returns : goal.returns
 returns c =
-    c.count.ensures ∙ ap (λ (a : Count). count_shown (count_told a)) (search good-read)
+    c.count.ensures ∙ ap (λ (a : (Result ℕ Refusal)). count_shown (count_told a)) (search good-read)

@@ -3,8 +3,8 @@ use mathlib.Core.Path.{ap, ◌∙◌}
 use Rattle.rules.specs.Answers.{offered_told}
 use Rattle.rules.specs.Local.{offer}
 use Rattle.rules.specs.Node.{beats}
-use Rattle.rules.specs.declared.Offered.{Offered}
-use Rattle.rules.specs.declared.Offered.TheVariants.{Refused}
+use Rattle.std.specs.Prelude.{Bool, Err, Result}
+use Rattle.rules.specs.declared.Refusal.{Refusal}
 use Rattle.rules.specs.declared.Refusal.TheVariants.{BadTable}
 use Rattle.table_check.proofs.Entry.{good-table}
 use Rattle.answers.specs.Shown.{count_shown}
@@ -26,5 +26,5 @@ offer_good-requires c =
 pub returns : goal.returns
 returns c =
     let w = c.offer_good in
-    let g = good-table (Refused BadTable) (offer c.args.number (beats c.args.heartbeat)) c.args.table.now c.requires w.result w.new.table w.ensures in
-    (c.news.ensures ∙ ap (λ (a : Offered). count_shown (offered_told a)) g.0, g.1)
+    let g = good-table (Err BadTable) (offer c.args.number (beats c.args.heartbeat)) c.args.table.now c.requires w.result w.new.table w.ensures in
+    (c.news.ensures ∙ ap (λ (a : (Result Bool Refusal)). count_shown (offered_told a)) g.0, g.1)

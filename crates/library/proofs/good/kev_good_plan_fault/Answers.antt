@@ -1,7 +1,8 @@
 -- `library::good::kev_good_plan_fault` meets its contract: the call on a good table, and what its answer tells. Assumes nothing.
 use mathlib.Core.Path.{ap, ◌∙◌}
 use Rattle.plan.specs.Faults.{judged_told}
-use Rattle.plan.specs.declared.Judged.{Judged}
+use Rattle.std.specs.Prelude.{Result}
+use Rattle.plan.specs.declared.NotSent.{NotSent}
 use Rattle.answers.specs.Shown.{judged_shown}
 use Rattle.library.proofs.Accepted.{good-area, good-long, good-read}
 use Rattle.library.proofs.good.kev_good_plan_fault.Goals as goal
@@ -16,4 +17,4 @@ plan_fault_good-requires c =
 
 pub returns : goal.returns
 returns c =
-    c.judged.ensures ∙ ap (λ (a : Judged). judged_shown (judged_told a)) (search good-read)
+    c.judged.ensures ∙ ap (λ (a : (Result (Unit {0}) NotSent)). judged_shown (judged_told a)) (search good-read)

@@ -1,7 +1,8 @@
 -- `library::good::kev_good_remove_scheduled` meets its contract: the removal on a good table answers nothing. Assumes nothing.
 use mathlib.Core.Path.{ap}
 use Rattle.rules.specs.Answers.{answer_told}
-use Rattle.rules.specs.declared.Answer.{Answer}
+use Rattle.std.specs.Prelude.{Result}
+use Rattle.rules.specs.declared.Refusal.{Refusal}
 use Rattle.answers.specs.Shown.{number_shown}
 use Rattle.library.proofs.Accepted.{good-area, good-within, good-long, good-removed}
 use Rattle.library.proofs.good.kev_good_remove_scheduled.Goals as goal
@@ -22,4 +23,4 @@ pub returns : goal.returns
 unfolding answer_told
 returns c =
     let g = good-removed c.args.clock c.args.grace c.args.table.now c.requires _ c.remove_good.ensures in
-    (ap (λ (a : Answer). number_shown (answer_told a)) g.0, g.1)
+    (ap (λ (a : (Result (Unit {0}) Refusal)). number_shown (answer_told a)) g.0, g.1)

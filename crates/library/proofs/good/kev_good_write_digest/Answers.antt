@@ -3,8 +3,8 @@ use mathlib.Core.Path.{ap, ◌∙◌}
 use Rattle.rules.specs.Answers.{written_told}
 use Rattle.rules.specs.Given.{given}
 use Rattle.rules.specs.Digest.{write_digest}
-use Rattle.rules.specs.declared.Written.{Written}
-use Rattle.rules.specs.declared.Written.TheVariants.{Refused}
+use Rattle.std.specs.Prelude.{Err, Result, ℕ}
+use Rattle.rules.specs.declared.Refusal.{Refusal}
 use Rattle.rules.specs.declared.Refusal.TheVariants.{BadTable}
 use Rattle.answers.specs.Shown.{count_shown}
 use Rattle.library.proofs.Accepted.{good-area, good-long, good-fill}
@@ -21,5 +21,5 @@ write_good-requires c =
 pub returns : goal.returns
 returns c =
     let a = c.args in
-    let g = good-fill (λ t. write_digest a.edition a.excluded.now a.place t a.datagram.now) a.table.now c.requires (given (Refused BadTable) a.datagram.now) _ _ c.write_good.ensures in
-    (c.bytes.ensures ∙ ap (λ (a : Written). count_shown (written_told a)) g.0, g.1)
+    let g = good-fill (λ t. write_digest a.edition a.excluded.now a.place t a.datagram.now) a.table.now c.requires (given (Err BadTable) a.datagram.now) _ _ c.write_good.ensures in
+    (c.bytes.ensures ∙ ap (λ (a : (Result ℕ Refusal)). count_shown (written_told a)) g.0, g.1)

@@ -1,10 +1,9 @@
-use Prim.Native.Nat.{◌≤◌, ◌<◌, ◌-◌}
-use lib.ListN.{length}
+-- `replay_tell::checksum::sum_of` is safe: what was summed is below the modulus. Assumes nothing.
+use Prim.Native.Nat.{◌<◌}
 use Rattle.replay_tell.proofs.checksum.sum_of.Given as goal
 
--- `replay_tell::checksum::sum_of` is safe and ends. Assumes nothing.
-abbrev pub invariant-loop-i : goal.invariant-loop-i
-invariant-loop-i l = (l.i ≤ length l.table) × (l.sum < 4294967291)
+abbrev pub invariant-loop-four : goal.invariant-loop-four
+invariant-loop-four l = l.sum < 4294967291
 
-abbrev pub decreases-loop-i : goal.decreases-loop-i
-decreases-loop-i l = length l.table - l.i
+abbrev pub invariant-loop-byte : goal.invariant-loop-byte
+invariant-loop-byte l = l.sum < 4294967291

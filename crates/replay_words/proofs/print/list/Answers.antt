@@ -1,32 +1,26 @@
 -- `replay_words::print::list` meets its contract: what is left to print, printed now, gives what the contract says. Assumes nothing.
 use Prim.Native.Nat.{ℕ}
-use mathlib.Core.Path.{refl, ap, ◌∙◌}
-use mathlib.Core.List.{[]}
-use native.Mathlib.Omega.{arith}
+use mathlib.Core.Path.{◌≡◌, ap, ◌∙◌}
+use mathlib.Core.List.{[], ◌∷◌}
 use Rattle.rules.specs.Listing.{decimal}
-use Rattle.replay_words.specs.Printing.{page, say}
+use Rattle.replay_words.specs.Printing.{Page, page, say}
 use Rattle.replay_words.proofs.Said.{more_turn, more-end, list-none, list-first}
 use Rattle.replay_words.proofs.print.list.Goals as goal
 
-pub returns-then-bytes-eq0 : goal.returns-then-bytes-eq0
-returns-then-bytes-eq0 c =
-    list-none _ _ _ c.if-bytes-eq0.true c.byte.ensures
+more : (p m q : Page) (b v : ℕ) → v ≡ b → m ≡ say (44 ∷ []) p → q ≡ say (decimal v) m → q ≡ say (decimal b) (say (44 ∷ []) p)
+more p m q b v e g h = cc
 
-pub loop-i-init : goal.loop-i-init
-loop-i-init c =
-    (omega arith, refl, refl)
+pub returns-in_default : goal.returns-in_default
+returns-in_default c =
+    list-none _ _ _ c.in_default.ensures.cases c.byte.ensures
 
-pub loop-i-preserved : goal.loop-i-preserved
-loop-i-preserved c =
-    let s = c.args.bytes.now in (
-      omega arith,
-      c.more-next.auto.out ∙ c.loop-i.invariant.1,
-      more_turn s _ _ _ _ c.loop-i-test.true c.loop-i.invariant.2 c.more-next.ensures,
-    )
+pub loop-value-preserved : goal.loop-value-preserved
+loop-value-preserved c =
+    more_turn c.in-Some.rest.now _ _ _ _ c.loop-value-test.true c.loop-value.invariant
+    (more _ _ _ _ _ c.from-in-loop-value.ensures c.byte-next.ensures c.decimal-next-in-loop-value.ensures)
 
 pub returns : goal.returns
 returns c =
     let a = c.args in
-    let s = a.bytes.now in
-    more-end s _ _ (page 0 []) _ c.loop-i-test.false c.loop-i.invariant.2
-    ∙ list-first s _ _ c.if-bytes-eq0.false (c.decimal-next.ensures ∙ ap (λ (k : ℕ). say (decimal k) (page a.at a.out.now)) c.wide.ensures.0)
+    more-end c.in-Some.rest.now _ _ (page 0 []) _ c.loop-value-test.false c.loop-value.invariant
+    ∙ list-first a.bytes.now _ _ _ _ c.in-Some.ensures.cases.0 (c.decimal-next.ensures ∙ ap (λ (k : ℕ). say (decimal k) (page a.at a.out.now)) c.from.ensures)

@@ -1,8 +1,0 @@
-use Rattle.replay.proofs.lines.next.Given as goal
-
--- `replay::lines::next` is safe and ends. Assumes nothing.
-abbrev pub invariant-loop-left : goal.invariant-loop-left
-invariant-loop-left g l = Unit {0}
-
-abbrev pub decreases-loop-left : goal.decreases-loop-left
-decreases-loop-left g l = l.left
