@@ -1,5 +1,5 @@
 -- Two datagrams for one (ticket 14 of document 02). A gateway cuts a delta at the start of a Node operation and sends what stands before it and what stands
--- from it on. (Result ℕ DeltaFault) one after the other, in either order and at the same time of receipt, the two do what the uncut delta does. The theorems are in
+-- from it on. Applied one after the other, in either order and at the same time of receipt, the two do what the uncut delta does. The theorems are in
 -- proofs/Parts, of tables in any ways that allow it, and in proofs/LentParts, of lent bytes in any mode.
 use Rattle.std.specs.Prelude.{ℕ, ◌+◌, ◌≤◌, ◌≡◌, List, [], ◌∷◌, ◌++◌, length, take, drop}
 use Rattle.fields.specs.Numbers.{Bytes, AreBytes}
