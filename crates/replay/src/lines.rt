@@ -35,11 +35,3 @@ pub fn next<R: BufRead>(input: &mut R, line: &mut Vec<u8>) -> Result<bool> {
     }
     Ok(!line.is_empty())
 }
-
-// The line; nothing of it where it is too long.
-pub fn taken(line: &[u8]) -> &[u8] {
-    if line.len() < LINE {
-        return line;
-    }
-    &[]
-}

@@ -228,6 +228,14 @@ fn told(
     Some(closed(after, verb, after.held(tables), grid, out))
 }
 
+// The line; nothing of it where it is too long.
+fn taken(line: &[u8]) -> &[u8] {
+    if line.len() < lines::LINE {
+        return line;
+    }
+    &[]
+}
+
 fn main(rt: HostRuntime) -> Result<()> {
     let mut tables = [0u8; replay_desk::TABLES];
     let mut grids = [0u8; replay_desk::GRIDS];
@@ -255,7 +263,7 @@ fn main(rt: HostRuntime) -> Result<()> {
             &mut grids,
             &mut digest,
             &mut delta,
-            lines::taken(&line),
+            taken(&line),
             &mut out,
         )
         .unwrap_or_else(|| malformed(desk, &mut out));
