@@ -11,7 +11,7 @@ use replay_tell::checksum;
 use replay_words::verbs::Verb;
 use replay_words::{print, read, verbs};
 use rules::Party;
-use std::io::{BufReader, Write};
+use std::io::Write;
 
 // Room for output. It is written once it holds ENOUGH; the longest answer, a digest in the longest datagram, has 65,555 bytes and fits behind.
 const OUT: usize = 131072;
@@ -61,6 +61,27 @@ fn exchange_call(
         }
     };
     Some(desk.with_out(next))
+}
+
+// The same, with the bytes that the line tells. A function of its own: a function clears its room at entry, and the call of another line has no use for it.
+fn bytes_call(
+    desk: Desk,
+    verb: verbs::Exchange,
+    room: &mut [u8],
+    digest: &[u8],
+    delta: &mut [u8],
+    line: &[u8],
+    out: &mut [u8],
+) -> Option<Desk> {
+    let mut given = [0u8; replay_desk::TABLE];
+    let n = read::bytes_of(
+        read::word(line, 1),
+        read::front(digest, desk.digest),
+        read::front(delta, desk.delta),
+        &mut given,
+    )?;
+    let table = read::front_mut(room, desk.lent());
+    exchange_call(desk, verb, table, delta, read::front(&given, n), line, out)
 }
 
 fn digest_call(
@@ -114,17 +135,7 @@ fn call(
             out,
         ),
         Verb::Digest => digest_call(desk, read::front(room, desk.lent()), digest, line, out),
-        Verb::Exchange(verb) => {
-            let mut given = [0u8; replay_desk::TABLE];
-            let n = read::bytes_of(
-                read::word(line, 1),
-                read::front(digest, desk.digest),
-                read::front(delta, desk.delta),
-                &mut given,
-            )?;
-            let table = read::front_mut(room, desk.lent());
-            exchange_call(desk, verb, table, delta, read::front(&given, n), line, out)
-        }
+        Verb::Exchange(verb) => bytes_call(desk, verb, room, digest, delta, line, out),
         Verb::Overrides => replay_desk::new_overrides(desk, room, read::word(line, 1), out),
         Verb::Label(verb) => {
             let overrides = read::front_mut(room, desk.lent());
@@ -228,10 +239,10 @@ fn told(
     Some(closed(after, verb, after.held(tables), grid, out))
 }
 
-// The line; nothing of it where it is too long.
-fn taken(line: &[u8]) -> &[u8] {
-    if line.len() < lines::LINE {
-        return line;
+// The line, the first bytes of its room; nothing of it where it is too long.
+fn taken(room: &[u8; lines::LINE], len: usize) -> &[u8] {
+    if len < lines::LINE {
+        return read::front(room, len);
     }
     &[]
 }
@@ -242,28 +253,29 @@ fn main(rt: HostRuntime) -> Result<()> {
     let mut digest = [0u8; DIGEST];
     let mut delta = [0u8; DELTA];
     let mut out = [0u8; OUT];
-    let alloc = rt.alloc();
-    let mut line = Vec::with_capacity(alloc, lines::LINE)?;
-    let mut stdin = BufReader::with_capacity(alloc, lines::CHUNK, rt.stdin())?;
+    let mut chunk = [0u8; lines::CHUNK];
+    let mut left = lines::Left { at: 0, end: 0 };
+    let mut line = [0u8; lines::LINE];
+    let mut stdin = rt.stdin();
     let mut stdout = rt.stdout();
     let mut desk = Desk::new();
     for _ in 0..lines::MOST {
-        match lines::next(&mut stdin, &mut line) {
-            Ok(true) => {}
-            Ok(false) => break,
+        let len = match lines::next(&mut stdin, &mut chunk, &mut left, &mut line) {
+            Ok(Some(len)) => len,
+            Ok(None) => break,
             Err(e) => {
                 // What was answered before the input failed is written all the same.
                 write_out(desk, &mut stdout, &out)?;
                 return Err(e);
             }
-        }
+        };
         desk = told(
             desk,
             &mut tables,
             &mut grids,
             &mut digest,
             &mut delta,
-            taken(&line),
+            taken(&line, len),
             &mut out,
         )
         .unwrap_or_else(|| malformed(desk, &mut out));

@@ -6,7 +6,12 @@ pub const MARK: u8 = 238;
 
 // Whether all bytes are as they were marked.
 pub fn is_marked(bytes: &[u8]) -> bool {
-    bytes.iter().all(|byte| *byte == MARK)
+    // No way out of the loop: `all` leaves early, and a datagram of 32,768 bytes then takes longer than all else that a line does.
+    let mut differ = 0;
+    for byte in bytes {
+        differ |= *byte ^ MARK;
+    }
+    differ == 0
 }
 
 // Whether the bytes before `start` and those from `end` on are as they were marked.

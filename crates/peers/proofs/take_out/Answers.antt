@@ -15,7 +15,7 @@ use Rattle.peers.proofs.take_out.Goals as goal
 
 pub take_out_row-requires : goal.take_out_row-requires
 take_out_row-requires c =
-    ((sym c.check_grid.ensures ∙ c.if-not-check_grid.false), c.in_ok-row.ensures.1)
+    ((sym c.check_grid.ensures ∙ c.if-not-check_grid.false), omega (arith, c.in_ok-row.ensures.1))
 
 pub returns : goal.returns
 unfolding lent_take_out
