@@ -6,8 +6,7 @@ use std::io::Read;
 // Room for a line: one byte more than the longest that is taken. A line that fills it is too long.
 pub const LINE: usize = 59938;
 
-// With it the program needs no deeper stack than when its calls were many small functions, though these stand in one frame now.
-pub const CHUNK: usize = 16384;
+pub const CHUNK: usize = 65536;
 
 // More lines, or chunks of a line, than any input has.
 pub const MOST: u64 = 1099511627776;

@@ -63,7 +63,9 @@ fn exchange_call(
     Some(desk.with_out(next))
 }
 
-// The same, with the bytes that the line tells. A function of its own: a function clears its room at entry, and the call of another line has no use for it.
+// The same, with the bytes that the line tells. A function of its own, with a frame of its own: a function clears its room at entry, and the call of another
+// line has no use for it, nor stack to spare.
+#[inline(never)]
 fn bytes_call(
     desk: Desk,
     verb: verbs::Exchange,
@@ -84,6 +86,8 @@ fn bytes_call(
     exchange_call(desk, verb, table, delta, read::front(&given, n), line, out)
 }
 
+// The call that writes a digest, with the room for a datagram: a frame of its own, as above.
+#[inline(never)]
 fn digest_call(
     desk: Desk,
     table: &[u8],
