@@ -1,5 +1,6 @@
 -- `peers::take_out` meets its contract: 14, 21, and the row. Assumes nothing.
-use mathlib.Core.Path.{◌∙◌, refl, sym}
+use Prim.Native.Nat.{ℕ}
+use mathlib.Core.Path.{◌∙◌, ap, refl, sym}
 use native.Mathlib.Omega.{arith}
 use borrow.Author.Tests.{le-ltb, lt-ltb}
 use Rattle.rules.proofs.Unique.{tells}
@@ -7,7 +8,8 @@ use Rattle.rules.specs.Answers.{answer_told}
 use Rattle.std.specs.Prelude.{Err}
 use Rattle.rules.specs.Results.{done}
 use Rattle.rules.specs.declared.Refusal.TheVariants.{BadPeer, BadTable}
-use Rattle.grid.specs.Grid.{max_peers}
+use Rattle.grid.specs.Grid.{max_peers, take_out}
+use Rattle.grid.specs.GridLayout.{decode_grid, encode_grid}
 use Rattle.grid.specs.LentGrid.{lent_take_out}
 use Rattle.std.proofs.lemmas.Result.{err_from_is_err_and}
 use Rattle.peers.proofs.Watching.{no, yes}
@@ -20,7 +22,7 @@ take_out_row-requires c =
 pub returns : goal.returns
 unfolding lent_take_out
 returns c =
-    tells answer_told (yes _ _ _ (sym c.check_grid.ensures ∙ c.if-not-check_grid.false) done _ (yes _ _ _ (lt-ltb c.args.peer max_peers (omega (arith, c.in_ok-row.ensures.0, c.in_ok-row.ensures.1))) done _ (refl, rw c.in_ok-row.ensures.0 at c.take_out_row.ensures)))
+    tells answer_told (yes _ _ _ (sym c.check_grid.ensures ∙ c.if-not-check_grid.false) done _ (yes _ _ _ (lt-ltb c.args.peer max_peers (omega (arith, c.in_ok-row.ensures.0, c.in_ok-row.ensures.1))) done _ (refl, c.take_out_row.ensures ∙ ap (λ (r : ℕ). encode_grid (take_out r (decode_grid c.args.grid.now))) c.in_ok-row.ensures.0)))
 
 pub returns-in_err-row : goal.returns-in_err-row
 unfolding lent_take_out
